@@ -30,7 +30,8 @@ AreLayersInOrder LargestFirst k w near far cells = AreLayers k w near far (λ e.
 AreLayersInOrder SmallestFirst k w near far cells = AreLayers k w near far cells (λ e. cells (e + 1))
 
 -- of 2 ^ top rows of w cells, chunk `number`: it held the cells from, by the values that it had, and then holds the cells to
-pub record TakesCells {T A : Type 0} (value_before value : T → A) (d : T) (order : Order) (w top number : ℕ) (near far : ℕ → A → A → A) (from to : ℕ) (before after : List T) : Type 0 where
+pub record TakesCells {T A : Type 0} (value_before value : T → A) (d : T) (order : Order) (w top number : ℕ)
+    (near far : ℕ → A → A → A) (from to : ℕ) (before after : List T) : Type 0 where
   pub taken : (k : ℕ) (cells : ℕ → ℕ → A) → AreLayersInOrder order k w near far cells → (number + 1) * 2 ^ top ≤ 2 ^ k
       → HoldsCells value_before d (number * length before) (cells from) before → HoldsCells value d (number * length before) (cells to) after
 
@@ -42,13 +43,18 @@ pub record IsChunk (w top number twiddles n : ℕ) : Type 0 where
   pub size : n ≡ 2 ^ top * w
 
 -- in their order, the layers from `from` up to `to` of such a chunk: near and far stand behind a butterfly of a twiddle, and block b has twiddle b
-abbrev pub DoesLayers : {F : Type 0} (f : FieldMembers F) → Order → (near far : f.Element → f.Element → f.Element → f.Element) → List F → (w top number from to : ℕ) → List F → List F → Type 0
+abbrev pub DoesLayers : {F : Type 0} (f : FieldMembers F) → Order
+    → (near far : f.Element → f.Element → f.Element → f.Element) → List F → (w top number from to : ℕ) → List F → List F
+    → Type 0
 DoesLayers f order near far twiddles w top number from to = TakesCells f.value f.value f.zero order w top number
-    (λ b. near (f.value (get_or twiddles b f.zero))) (λ b. far (f.value (get_or twiddles b f.zero))) (cells_of order from to 0) (cells_of order from to (to - from))
+    (λ b. near (f.value (get_or twiddles b f.zero))) (λ b. far (f.value (get_or twiddles b f.zero)))
+    (cells_of order from to 0) (cells_of order from to (to - from))
 
 -- rows of `part` cells, of which the list's first cell is number `first`, hold those of the columns from `at` up to `end`
 abbrev pub HoldsColumns : {T A : Type 0} → (T → A) → T → ℕ → ℕ → ℕ → ℕ → ℕ → (ℕ → A) → List T → Type 0
-HoldsColumns value d part rows first at end cells xs = (r j : ℕ) → r < rows → j < part → at ≤ j → j < end → value (get_or xs (r * part + j) d) ≡ cells (first + (r * part + j))
+HoldsColumns value d part rows first at end cells xs =
+    (r j : ℕ) → r < rows → j < part → at ≤ j → j < end
+    → value (get_or xs (r * part + j) d) ≡ cells (first + (r * part + j))
 
 -- they hold other cells there, and the other columns stay
 pub record TakesColumns {T A : Type 0} (value : T → A) (d : T) (part rows first at end : ℕ) (to : ℕ → A) (before after : List T) : Type 0 where
@@ -57,7 +63,12 @@ pub record TakesColumns {T A : Type 0} (value : T → A) (d : T) (part rows firs
 
 -- of two halves of rows of `part` cells, the columns from `at` up to `end` meet, and the others stay
 pub record MeetInColumns {T A : Type 0} (value : T → A) (d : T) (part half at end : ℕ) (near far : A → A → A) (before after : List T) : Type 0 where
-  pub near_half : (t j : ℕ) → t < half → j < part → at ≤ j → j < end → value (get_or after (t * part + j) d) ≡ near (value (get_or before (t * part + j) d)) (value (get_or before (half * part + (t * part + j)) d))
-  pub far_half : (t j : ℕ) → t < half → j < part → at ≤ j → j < end → value (get_or after (half * part + (t * part + j)) d) ≡ far (value (get_or before (t * part + j) d)) (value (get_or before (half * part + (t * part + j)) d))
+  pub near_half : (t j : ℕ) → t < half → j < part → at ≤ j → j < end
+      → value (get_or after (t * part + j) d)
+      ≡ near (value (get_or before (t * part + j) d)) (value (get_or before (half * part + (t * part + j)) d))
+  pub far_half : (t j : ℕ) → t < half → j < part → at ≤ j → j < end
+      → value (get_or after (half * part + (t * part + j)) d)
+      ≡ far (value (get_or before (t * part + j) d)) (value (get_or before (half * part + (t * part + j)) d))
   pub kept : (t j : ℕ) → t < half → j < part → (j < at) ⊎ (end ≤ j)
-      → (get_or after (t * part + j) d ≡ get_or before (t * part + j) d) × (get_or after (half * part + (t * part + j)) d ≡ get_or before (half * part + (t * part + j)) d)
+      → (get_or after (t * part + j) d ≡ get_or before (t * part + j) d)
+      × (get_or after (half * part + (t * part + j)) d ≡ get_or before (half * part + (t * part + j)) d)

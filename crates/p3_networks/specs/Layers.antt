@@ -28,13 +28,17 @@ pub record MeetInPairs {A : Type 0} (n : ℕ) (near far : ℕ → A → A → A)
   pub far_cell : (i : ℕ) → i < n → after (2 * i + 1) ≡ far i (before (2 * i)) (before (2 * i + 1))
 
 -- pair i of a list by twiddle i of another
-abbrev pub MeetByTwiddles : {F : Type 0} (f : FieldMembers F) → (near far : f.Element → f.Element → f.Element → f.Element) → ℕ → List F → List F → List F → Type 0
-MeetByTwiddles f near far n twiddles before after = MeetInPairs n (λ i. near (f.value (get_or twiddles i f.zero))) (λ i. far (f.value (get_or twiddles i f.zero)))
+abbrev pub MeetByTwiddles : {F : Type 0} (f : FieldMembers F)
+    → (near far : f.Element → f.Element → f.Element → f.Element) → ℕ → List F → List F → List F → Type 0
+MeetByTwiddles f near far n twiddles before after =
+    MeetInPairs n (λ i. near (f.value (get_or twiddles i f.zero))) (λ i. far (f.value (get_or twiddles i f.zero)))
     (λ k. f.value (get_or before k f.zero)) (λ k. f.value (get_or after k f.zero))
 
 -- one layer: each of so many blocks, of two halves of so many cells
 abbrev pub IsLayer : {A : Type 0} → ℕ → ℕ → (ℕ → ℕ → A → A → A) → (ℕ → ℕ → A → A → A) → (ℕ → A) → (ℕ → A) → Type 0
-IsLayer blocks half near far before after = (b : ℕ) → b < blocks → MeetHalves half (near b) (far b) (λ n. before (b * (2 * half) + n)) (λ n. after (b * (2 * half) + n))
+IsLayer blocks half near far before after =
+    (b : ℕ) → b < blocks
+    → MeetHalves half (near b) (far b) (λ n. before (b * (2 * half) + n)) (λ n. after (b * (2 * half) + n))
 
 -- a list holds the cells from number `first` on
 abbrev pub HoldsCells : {T A : Type 0} → (T → A) → T → ℕ → (ℕ → A) → List T → Type 0

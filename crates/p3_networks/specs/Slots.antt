@@ -19,16 +19,19 @@ abbrev pub slot_blocks : {T : Type 0} → ℕ → ℕ → ℕ → List T → ℕ
 slot_blocks first b w rows n = map (slot_block first b w rows) (range_with_len 0 n)
 
 -- n blocks of rows are lent, one after another, up to one that is refused; with the first m blocks final, `done m` holds
-abbrev pub LentInBlocks : {T C R : Type 0} → (C → ℕ → RowMajor T → Result ⊤ R → C → Type 0) → ℕ → ℕ → ℕ → ℕ → (ℕ → Type 0) → List T → C → Result ⊤ R → C → Type 0
+abbrev pub LentInBlocks : {T C R : Type 0} → (C → ℕ → RowMajor T → Result ⊤ R → C → Type 0) → ℕ → ℕ → ℕ → ℕ
+    → (ℕ → Type 0) → List T → C → Result ⊤ R → C → Type 0
 LentInBlocks step first b w n done rows before result after = MatchResult result (λ _. done n × Run step before (slot_blocks first b w rows n) after)
     (λ refusal. (m : ℕ) × (m < n) × done (m + 1) × RunToRefusal step before (slot_blocks first b w rows m) (slot_block first b w rows m) refusal after)
 
--- the first n rows of after have the values on the coset of s of order 2 ^ k, in bit reversed order, of the polynomials whose 2 ^ k coefficients are the rows of before in bit reversed order
+-- the first n rows of after have the values on the coset of s of order 2 ^ k, in bit reversed order, of the polynomials
+-- whose 2 ^ k coefficients are the rows of before in bit reversed order
 abbrev pub HasRowsOnCoset : {F : Type 0} (f : FieldMembers F) → (ℕ → F) → ℕ → ℕ → f.Element → ℕ → List F → List F → Type 0
 HasRowsOnCoset f generator k w s n before after = (r j : ℕ) → r < n → j < w → f.value (get_or after (r * w + j) f.zero)
     ≡ poly f.ring (2 ^ k) (λ q. f.value (get_or before (rev k q * w + j) f.zero)) (point f.ring (forward_root f generator) k s (rev k r))
 
--- the values on the coset of s of order 2 ^ (k + a), in bit reversed order, of the polynomials whose 2 ^ k coefficients are rows of w entries in bit reversed order
+-- the values on the coset of s of order 2 ^ (k + a), in bit reversed order, of the polynomials whose 2 ^ k coefficients
+-- are rows of w entries in bit reversed order
 abbrev pub extended_rows : {F : Type 0} (f : FieldMembers F) → (ℕ → F) → ℕ → ℕ → ℕ → f.Element → List F → Matrix f.Element
 extended_rows f generator k a w s rows = record {
   height = 2 ^ (k + a);

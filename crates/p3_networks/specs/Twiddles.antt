@@ -61,7 +61,9 @@ layer_place reversed l t = if reversed then rev l t else t
 
 -- the table of the coset of s of order 2 ^ log: layer after layer, in natural order in the first half of the layers, and in bit reversed order in the second
 abbrev pub IsCosetTable : {F : Type 0} (f : FieldMembers F) → (ℕ → F) → f.Element → ℕ → List F → Type 0
-IsCosetTable f generator s log twiddles = AreTwiddlesOfLayers f log (λ l t. coset_twiddles f (forward_root f generator) s log l (layer_place (leb (mid_of log) l) l t)) twiddles
+IsCosetTable f generator s log twiddles =
+    AreTwiddlesOfLayers f log
+    (λ l t. coset_twiddles f (forward_root f generator) s log l (layer_place (leb (mid_of log) l) l t)) twiddles
 
 -- the number by which rows are multiplied, if there is one
 abbrev pub factor : {F : Type 0} (f : FieldMembers F) → Option F → f.Element

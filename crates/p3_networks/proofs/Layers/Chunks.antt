@@ -22,7 +22,9 @@ chunk_within k top number room =
 
 -- what lies within, in units of c
 cancelled : (a b c : ℕ) → 0 < c → a * c ≤ b * c → a ≤ b
-cancelled a b c some le = ⊎_elim (λ more. let l : suc b * c ≤ a * c = mul-le-mul_right c more in absurd (omega (arith, l, le, some))) (λ not_more. not_more) (cases_lt b a)
+cancelled a b c some le =
+    ⊎_elim (λ more. let l : suc b * c ≤ a * c = mul-le-mul_right c more in absurd (omega (arith, l, le, some)))
+    (λ not_more. not_more) (cases_lt b a)
 
 -- the blocks of a chunk are blocks of the whole
 pub blocks_within : (k top e number : ℕ) → e < top → (number + 1) * 2 ^ top ≤ 2 ^ k → number * 2 ^ (top - 1 - e) + 2 ^ (top - 1 - e) ≤ 2 ^ (k - 1 - e)
@@ -46,11 +48,15 @@ module _ {A T : Type 0} (value : T → A) (d : T) (near far : ℕ → A → A �
       each_row (λ i. value (get_or y i d) ≡ after e (number * length x + i)) (half * w) blocks
       (λ b i p q. (
         (layer b p).near_cell i q ∙ ap₂ (near (number * blocks + b)) (held b i p (omega (arith, q))) (held b (half * w + i) p (omega (arith, q)))
-            ∙ sym (subst (λ (h : ℕ). after e ((number * blocks + b) * (2 * (h * w)) + i) ≡ near (number * blocks + b) (before e ((number * blocks + b) * (2 * (h * w)) + i)) (before e ((number * blocks + b) * (2 * (h * w)) + (h * w + i)))) (sym half_is)
+            ∙ sym (subst (λ (h : ℕ). after e ((number * blocks + b) * (2 * (h * w)) + i) ≡ near (number * blocks + b)
+            (before e ((number * blocks + b) * (2 * (h * w)) + i))
+            (before e ((number * blocks + b) * (2 * (h * w)) + (h * w + i)))) (sym half_is)
             (layers.near_cell e (number * blocks + b) i (omega (arith, below, within)) (inside_all b p) (subst (λ (h : ℕ). i < h * w) half_is q)))
             ∙ ap (after e) (place b i),
         (layer b p).far_cell i q ∙ ap₂ (far (number * blocks + b)) (held b i p (omega (arith, q))) (held b (half * w + i) p (omega (arith, q)))
-            ∙ sym (subst (λ (h : ℕ). after e ((number * blocks + b) * (2 * (h * w)) + (h * w + i)) ≡ far (number * blocks + b) (before e ((number * blocks + b) * (2 * (h * w)) + i)) (before e ((number * blocks + b) * (2 * (h * w)) + (h * w + i)))) (sym half_is)
+            ∙ sym (subst (λ (h : ℕ). after e ((number * blocks + b) * (2 * (h * w)) + (h * w + i)) ≡ far
+            (number * blocks + b) (before e ((number * blocks + b) * (2 * (h * w)) + i))
+            (before e ((number * blocks + b) * (2 * (h * w)) + (h * w + i)))) (sym half_is)
             (layers.far_cell e (number * blocks + b) i (omega (arith, below, within)) (inside_all b p) (subst (λ (h : ℕ). i < h * w) half_is q)))
             ∙ ap (after e) (place b (half * w + i)),
       ))
@@ -60,16 +66,25 @@ module _ {A T : Type 0} (value : T → A) (d : T) (near far : ℕ → A → A �
       within = chunk_within k top number room
 
       place : (b u : ℕ) → (number * blocks + b) * (2 * (half * w)) + u ≡ number * length x + (b * (2 * (half * w)) + u)
-      place b u = let spread : (number * blocks + b) * (2 * (half * w)) + u ≡ number * (blocks * (2 * (half * w))) + (b * (2 * (half * w)) + u) = omega arith in spread ∙ ap (λ m. number * m + (b * (2 * (half * w)) + u)) (sym size)
+      place b u =
+          let spread : (number * blocks + b) * (2 * (half * w)) + u
+          ≡ number * (blocks * (2 * (half * w))) + (b * (2 * (half * w)) + u) =
+          omega arith in
+          spread ∙ ap (λ m. number * m + (b * (2 * (half * w)) + u)) (sym size)
 
-      held : (b u : ℕ) → b < blocks → u < 2 * (half * w) → value (get_or x (b * (2 * (half * w)) + u) d) ≡ before e ((number * blocks + b) * (2 * (half * w)) + u)
+      held : (b u : ℕ) → b < blocks → u < 2 * (half * w)
+          → value (get_or x (b * (2 * (half * w)) + u) d) ≡ before e ((number * blocks + b) * (2 * (half * w)) + u)
       held b u p q =
           let more : suc b * (2 * (half * w)) ≤ blocks * (2 * (half * w)) = mul-le-mul_right (2 * (half * w)) p in
           let next : suc b * (2 * (half * w)) ≡ b * (2 * (half * w)) + 2 * (half * w) = omega arith in
           holds (b * (2 * (half * w)) + u) (omega (arith, more, next, q, size)) ∙ ap (before e) (sym (place b u))
 
       inside_all : (b : ℕ) → b < blocks → number * blocks + b < 2 ^ (k - 1 - e)
-      inside_all b p = let all = blocks_within k top e number below room in let is : number * blocks + blocks ≡ number * 2 ^ (top - 1 - e) + 2 ^ (top - 1 - e) = ap (λ m. number * m + m) blocks_is in omega (arith, all, is, p)
+      inside_all b p =
+          let all = blocks_within k top e number below room in
+          let is : number * blocks + blocks ≡ number * 2 ^ (top - 1 - e) + 2 ^ (top - 1 - e) =
+          ap (λ m. number * m + m) blocks_is in
+          omega (arith, all, is, p)
 
 -- the sizes of a layer of a chunk, as a program has them by shifts, and the digits of its rows
 pub record ChunkSizes (top e number half blocks : ℕ) : Type 0 where
@@ -106,11 +121,14 @@ chunk_sizes top e number below small =
     }
 
 -- one layer more: each makes at most so many products for each two of the cells
-pub costly_layer_more : (cost done size before now after : ℕ) → RisesAtMost (cost * (done * size)) (2 * before) (2 * now) → RisesAtMost (cost * size) (2 * now) (2 * after) → RisesAtMost (cost * ((done + 1) * size)) (2 * before) (2 * after)
+pub costly_layer_more : (cost done size before now after : ℕ)
+    → RisesAtMost (cost * (done * size)) (2 * before) (2 * now) → RisesAtMost (cost * size) (2 * now) (2 * after)
+    → RisesAtMost (cost * ((done + 1) * size)) (2 * before) (2 * after)
 costly_layer_more cost done size before now after so_far layer =
     let next : cost * ((done + 1) * size) ≡ cost * (done * size) + cost * size = omega arith in
     record { grows = omega (arith, so_far.grows, layer.grows); cost = omega (arith, so_far.cost, layer.cost, next) }
 
 -- what a chunk holds, told by another name of its length
-pub held_as_long : {A T : Type 0} (value : T → A) (d : T) (cells : ℕ → A) (number : ℕ) {a b : ℕ} (xs : List T) → a ≡ b → HoldsCells value d (number * a) cells xs → HoldsCells value d (number * b) cells xs
+pub held_as_long : {A T : Type 0} (value : T → A) (d : T) (cells : ℕ → A) (number : ℕ) {a b : ℕ} (xs : List T) → a ≡ b
+    → HoldsCells value d (number * a) cells xs → HoldsCells value d (number * b) cells xs
 held_as_long value d cells number xs same holds = subst (λ (n : ℕ). HoldsCells value d (number * n) cells xs) same holds

@@ -23,15 +23,20 @@ pub count_none : (cost size before : ℕ) → before ≤ before + cost * (0 * si
 count_none cost size before = omega arith
 
 pub count_all : (cost n turns size before after : ℕ) → n ≤ turns → after ≤ before + cost * (n * size) → after ≤ before + cost * (turns * size)
-count_all cost n turns size before after done so_far = let more : cost * (n * size) ≤ cost * (turns * size) = mul-le-mul_left cost (mul-le-mul_right size done) in omega (arith, so_far, more)
+count_all cost n turns size before after done so_far =
+    let more : cost * (n * size) ≤ cost * (turns * size) = mul-le-mul_left cost (mul-le-mul_right size done) in
+    omega (arith, so_far, more)
 
 -- the same where each turn makes just so many
 pub turn_counted : (n size made before now after : ℕ) → made ≡ size → now ≡ before + n * size → after ≡ now + made → after ≡ before + (n + 1) * size
-turn_counted n size made before now after full so_far turn = let next : (n + 1) * size ≡ n * size + size = omega arith in omega (arith, next, full, so_far, turn)
+turn_counted n size made before now after full so_far turn =
+    let next : (n + 1) * size ≡ n * size + size = omega arith in omega (arith, next, full, so_far, turn)
 
 -- what so many turns make, by twice what each makes
 pub turns_halved : (turns n size before after : ℕ) → turns ≡ n → 2 * after ≤ 2 * before + turns * (2 * size) → after ≤ before + n * size
-turns_halved turns n size before after is made = let spread : turns * (2 * size) ≡ 2 * (turns * size) = omega arith in omega (arith, made, spread, ap (λ t. t * size) is)
+turns_halved turns n size before after is made =
+    let spread : turns * (2 * size) ≡ 2 * (turns * size) = omega arith in
+    omega (arith, made, spread, ap (λ t. t * size) is)
 
 -- what holds of so many turns, when a loop is over
 pub at_end : (P : ℕ → Type 0) (n turns : ℕ) → n ≤ turns → turns ≤ n → P n → P turns
@@ -57,7 +62,9 @@ half_count (suc k) =
 pub layer_counted : (cost k l w blocks half before now after : ℕ) → l < k → blocks * (2 * half) ≡ 2 ^ k
     → now ≤ before + cost * (l * (2 ^ (k - 1) * w)) → after ≤ now + cost * (blocks * (half * w)) → after ≤ before + cost * ((l + 1) * (2 ^ (k - 1) * w))
 layer_counted cost k l w blocks half before now after below whole so_far layer =
-    let pairs : blocks * half ≡ 2 ^ (k - 1) = let d = two_halves k (λ e. absurd (omega (arith, e, below))) in let e : blocks * (2 * half) ≡ 2 * (blocks * half) = omega arith in omega (arith, whole, d, e) in
+    let pairs : blocks * half ≡ 2 ^ (k - 1) =
+    let d = two_halves k (λ e. absurd (omega (arith, e, below))) in
+    let e : blocks * (2 * half) ≡ 2 * (blocks * half) = omega arith in omega (arith, whole, d, e) in
     let cells : blocks * (half * w) ≡ 2 ^ (k - 1) * w = let assoc : blocks * (half * w) ≡ blocks * half * w = omega arith in assoc ∙ ap (λ n. n * w) pairs in
     count_more cost l (2 ^ (k - 1) * w) before now after so_far (subst (λ (n : ℕ). after ≤ now + cost * n) cells layer)
 
@@ -99,7 +106,8 @@ halves_counted mid left k w scale is =
     together a b p = omega arith
 
 -- two halves of 2 ^ k rows, and the layer that joins them
-pub joined_count : (k w before first second after : ℕ) → 0 < k → first ≤ before + w * ((k - 1) * 2 ^ (k - 1) / 2) → second ≤ first + w * ((k - 1) * 2 ^ (k - 1) / 2)
+pub joined_count : (k w before first second after : ℕ) → 0 < k → first ≤ before + w * ((k - 1) * 2 ^ (k - 1) / 2)
+    → second ≤ first + w * ((k - 1) * 2 ^ (k - 1) / 2)
     → after ≤ second + 1 * (2 ^ (k - 1 - (k - 1)) * (2 ^ (k - 1) * w)) → after ≤ before + w * (k * 2 ^ k / 2)
 joined_count k w before first second after some low high layer =
     let none : k - 1 - (k - 1) ≡ 0 = omega arith in
@@ -109,7 +117,8 @@ joined_count k w before first second after some low high layer =
     let next : k - 1 + 1 ≡ k = omega (arith, some) in
     let halves : 2 ^ 1 * ((k - 1) * 2 ^ (k - 1) / 2) ≡ (k - 1) * 2 ^ (k - 1) = half_of_chunks (k - 1) 1 ∙ ap (λ n. (k - 1) * 2 ^ n) below in
     let all : k * 2 ^ k / 2 ≡ (k - 1) * 2 ^ (k - 1) + 2 ^ (k - 1) =
-    half_count k ∙ ap (λ n. n * 2 ^ (k - 1)) (sym next) ∙ (let spread : (k - 1 + 1) * 2 ^ (k - 1) ≡ (k - 1) * 2 ^ (k - 1) + 2 ^ (k - 1) = omega arith in spread) in
+    half_count k ∙ ap (λ n. n * 2 ^ (k - 1)) (sym next)
+    ∙ (let spread : (k - 1 + 1) * 2 ^ (k - 1) ≡ (k - 1) * 2 ^ (k - 1) + 2 ^ (k - 1) = omega arith in spread) in
     let both : w * (2 ^ 1 * ((k - 1) * 2 ^ (k - 1) / 2)) ≡ w * ((k - 1) * 2 ^ (k - 1)) = ap (λ n. w * n) halves in
     let whole : w * (k * 2 ^ k / 2) ≡ w * ((k - 1) * 2 ^ (k - 1) + 2 ^ (k - 1)) = ap (λ n. w * n) all in
     omega (arith, low, high, one_layer, both, whole)
@@ -126,26 +135,36 @@ pub counted_twice : (k w len before after : ℕ) → len ≡ 2 ^ k * w → 2 * a
 counted_twice zero w len before after full twice = let none : w * (0 * 2 ^ 0 / 2) ≡ 0 = omega arith in omega (arith, twice, none)
 counted_twice (suc k) w len before after full twice =
     let d : 2 ^ suc k ≡ 2 * 2 ^ (suc k - 1) = two_halves (suc k) (λ e. absurd (omega arith)) in
-    let all : suc k * len ≡ 2 * (w * (suc k * 2 ^ (suc k - 1))) = ap (λ n. suc k * n) (full ∙ ap (λ n. n * w) d) ∙ (let swap : suc k * (2 * 2 ^ (suc k - 1) * w) ≡ 2 * (w * (suc k * 2 ^ (suc k - 1))) = omega arith in swap) in
+    let all : suc k * len ≡ 2 * (w * (suc k * 2 ^ (suc k - 1))) =
+    ap (λ n. suc k * n) (full ∙ ap (λ n. n * w) d)
+    ∙ (let swap : suc k * (2 * 2 ^ (suc k - 1) * w) ≡ 2 * (w * (suc k * 2 ^ (suc k - 1))) = omega arith in swap) in
     let half = ap (λ n. w * n) (half_count (suc k)) in
     omega (arith, twice, all, half)
 
 -- in two parts
-pub layers_joined : (r k len before middle after : ℕ) → r ≤ k → 2 * middle ≤ 2 * before + (k - r) * len → 2 * after ≤ 2 * middle + r * len → 2 * after ≤ 2 * before + k * len
+pub layers_joined : (r k len before middle after : ℕ) → r ≤ k → 2 * middle ≤ 2 * before + (k - r) * len
+    → 2 * after ≤ 2 * middle + r * len → 2 * after ≤ 2 * before + k * len
 layers_joined r k len before middle after below first second =
-    let all : (k - r) * len + r * len ≡ k * len = let e : k - r + r ≡ k = omega (arith, below) in let d : (k - r) * len + r * len ≡ (k - r + r) * len = omega arith in d ∙ ap (λ n. n * len) e in
+    let all : (k - r) * len + r * len ≡ k * len =
+    let e : k - r + r ≡ k = omega (arith, below) in
+    let d : (k - r) * len + r * len ≡ (k - r + r) * len = omega arith in d ∙ ap (λ n. n * len) e in
     omega (arith, first, second, all)
 
 -- an extension by a bits whose first a layers are one product for each of its cells, and no more than a transform of its height
-pub extension_counted : (k a w len before after : ℕ) → 1 ≤ k + a → len ≡ 2 ^ (k + a) * w → 2 * after ≤ 2 * before + (k + a - a + 2) * len → after ≤ before + w * (2 ^ a * (k * 2 ^ k / 2) + 2 ^ (k + a))
+pub extension_counted : (k a w len before after : ℕ) → 1 ≤ k + a → len ≡ 2 ^ (k + a) * w
+    → 2 * after ≤ 2 * before + (k + a - a + 2) * len → after ≤ before + w * (2 ^ a * (k * 2 ^ k / 2) + 2 ^ (k + a))
 extension_counted k a w len before after some full twice =
     let p = 2 ^ (k + a - 1) in
     let d : 2 ^ (k + a) ≡ 2 * p = two_halves (k + a) (λ e. absurd (omega (arith, e, some))) in
     let layers : k + a - a + 2 ≡ k + 2 = omega arith in
-    let each : k * len ≡ 2 * (w * (k * p)) = ap (λ n. k * n) (full ∙ ap (λ n. n * w) d) ∙ (let swap : k * (2 * p * w) ≡ 2 * (w * (k * p)) = omega arith in swap) in
+    let each : k * len ≡ 2 * (w * (k * p)) =
+    ap (λ n. k * n) (full ∙ ap (λ n. n * w) d)
+    ∙ (let swap : k * (2 * p * w) ≡ 2 * (w * (k * p)) = omega arith in swap) in
     let all : (k + a - a + 2) * len ≡ k * len + 2 * len = ap (λ n. n * len) layers ∙ (let spread : (k + 2) * len ≡ k * len + 2 * len = omega arith in spread) in
     let half : w * (2 ^ a * (k * 2 ^ k / 2) + 2 ^ (k + a)) ≡ w * (k * p) + len =
-    ap (λ n. w * (n + 2 ^ (k + a))) (half_of_chunks k a) ∙ (let spread : w * (k * p + 2 ^ (k + a)) ≡ w * (k * p) + 2 ^ (k + a) * w = omega arith in spread) ∙ ap (λ n. w * (k * p) + n) (sym full) in
+    ap (λ n. w * (n + 2 ^ (k + a))) (half_of_chunks k a)
+    ∙ (let spread : w * (k * p + 2 ^ (k + a)) ≡ w * (k * p) + 2 ^ (k + a) * w = omega arith in spread)
+    ∙ ap (λ n. w * (k * p) + n) (sym full) in
     omega (arith, twice, all, each, half)
 
 -- layers of 2 ^ k rows, 2 ^ a times, are no more than those of all rows
@@ -154,14 +173,17 @@ layers_of_slots k a w =
     let rise : k * 2 ^ (k + a - 1) ≤ (k + a) * 2 ^ (k + a - 1) = mul-le-mul_right (2 ^ (k + a - 1)) (let l : k ≤ k + a = omega arith in l) in
     mul-le-mul_left w (omega (arith, rise, half_of_chunks k a, half_count (k + a)))
 
-pub fewer_than_parts : (k a w : ℕ) → w * (k * 2 ^ k / 2 * (1 + 2 ^ a) + 2 ^ (k + a)) ≤ w * (k * 2 ^ k / 2) + 2 ^ k * w + (w * ((k + a) * 2 ^ (k + a) / 2) + 2 ^ (k + a) * w)
+pub fewer_than_parts : (k a w : ℕ)
+    → w * (k * 2 ^ k / 2 * (1 + 2 ^ a) + 2 ^ (k + a))
+    ≤ w * (k * 2 ^ k / 2) + 2 ^ k * w + (w * ((k + a) * 2 ^ (k + a) / 2) + 2 ^ (k + a) * w)
 fewer_than_parts k a w =
     let x = k * 2 ^ k / 2 in
     let spread : w * (x * (1 + 2 ^ a) + 2 ^ (k + a)) ≡ w * x + w * (2 ^ a * x) + 2 ^ (k + a) * w = omega arith in
     omega (arith, spread, layers_of_slots k a w)
 
 -- slots whose rows are each multiplied once
-pub slots_made : (k a w before after : ℕ) → after ≤ before + 2 ^ a * (w * (k * 2 ^ k / 2) + 2 ^ k * w) → after ≤ before + (w * ((k + a) * 2 ^ (k + a) / 2) + 2 ^ (k + a) * w)
+pub slots_made : (k a w before after : ℕ) → after ≤ before + 2 ^ a * (w * (k * 2 ^ k / 2) + 2 ^ k * w)
+    → after ≤ before + (w * ((k + a) * 2 ^ (k + a) / 2) + 2 ^ (k + a) * w)
 slots_made k a w before after made =
     let x = k * 2 ^ k / 2 in
     let spread : 2 ^ a * (w * x + 2 ^ k * w) ≡ w * (2 ^ a * x) + 2 ^ k * 2 ^ a * w = omega arith in

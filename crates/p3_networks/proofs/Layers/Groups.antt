@@ -1,5 +1,6 @@
 -- Layers in groups: the sizes of a piece, and how a group goes from layer to layer and from piece to piece.
-use Rattle.std.proofs.Common.{◌≡◌, ℕ, ◌+◌, ◌*◌, ◌-◌, ◌/◌, ◌%◌, ◌<◌, ◌≤◌, ◌^◌, List, length, get_or, refl, sym, ap, ap₂, ◌∙◌, subst, arith, lit≤, min, ⊎_elim, inl, inr}
+use Rattle.std.proofs.Common.{◌≡◌, ℕ, ◌+◌, ◌*◌, ◌-◌, ◌/◌, ◌%◌, ◌<◌, ◌≤◌, ◌^◌, List, length, get_or, refl, sym, ap, ap₂}
+use Rattle.std.proofs.Common.{◌∙◌, subst, arith, lit≤, min, ⊎_elim, inl, inr}
 use Rattle.std.proofs.Math.Nat.{div-le_self, mul-le-mul, mul-le-mul_left, mul-le-mul_right, pow-le-pow_right}
 use Rattle.std.proofs.lemmas.Bool.{cases_lt}
 use Rattle.std.proofs.lemmas.Nat.{div-add-mod', div_below, mod_below, one_shl, pow-add, pow_pos}
@@ -34,14 +35,21 @@ piece_sizes from to e number w first last small =
     let left : to - from - 1 - (e - from) ≡ to - 1 - e = omega (arith, first, last) in
     let joined : 2 ^ (e - from) * 2 ^ from ≡ 2 ^ e = sym (pow-add 2 (e - from) from) ∙ ap (λ n. 2 ^ n) both in
     let cells : one_shifted (e - from) * (one_shifted from * w) ≡ 2 ^ e * w =
-    ap₂ (λ h p. h * (p * w)) half part ∙ (let assoc : 2 ^ (e - from) * (2 ^ from * w) ≡ 2 ^ (e - from) * 2 ^ from * w = omega arith in assoc) ∙ ap (λ n. n * w) joined in
+    ap₂ (λ h p. h * (p * w)) half part
+    ∙ (let assoc : 2 ^ (e - from) * (2 ^ from * w) ≡ 2 ^ (e - from) * 2 ^ from * w = omega arith in assoc)
+    ∙ ap (λ n. n * w) joined in
     record {
       digits = chunk.digits;
       part_is = ap (λ n. n * w) part;
       some_blocks = chunk.some_blocks;
       half_cells = cells;
-      rows = ap₂ (λ b h. b * (2 * h)) chunk.blocks_is half ∙ ap (λ n. 2 ^ n * (2 * 2 ^ (e - from))) (sym left) ∙ halves_whole (to - from) (e - from) (omega (arith, first, last));
-      cells = ap (λ n. n * w) (sym (halves_whole to e last)) ∙ (let spread : 2 ^ (to - 1 - e) * (2 * 2 ^ e) * w ≡ 2 ^ (to - 1 - e) * (2 * (2 ^ e * w)) = omega arith in spread)
+      rows =
+          ap₂ (λ b h. b * (2 * h)) chunk.blocks_is half ∙ ap (λ n. 2 ^ n * (2 * 2 ^ (e - from))) (sym left)
+          ∙ halves_whole (to - from) (e - from) (omega (arith, first, last));
+      cells =
+          ap (λ n. n * w) (sym (halves_whole to e last))
+          ∙ (let spread : 2 ^ (to - 1 - e) * (2 * 2 ^ e) * w ≡ 2 ^ (to - 1 - e) * (2 * (2 ^ e * w)) = omega arith in
+          spread)
           ∙ sym (ap₂ (λ b n. b * (2 * n)) chunk.blocks_is cells);
       numbers = chunk.numbers;
       blocks_is = chunk.blocks_is;
@@ -77,28 +85,43 @@ part_sizes from to number w order small =
 pub block_there : (top e number b : ℕ) → e < top → b < (number + 1) * 2 ^ (top - 1 - e) → 2 * b < (number + 1) * 2 ^ top
 block_there top e number b below inside =
     let all : (number + 1) * 2 ^ top ≡ 2 * ((number + 1) * 2 ^ (top - 1 - e) * 2 ^ e) =
-    ap (λ n. (number + 1) * n) (sym (halves_whole top e below)) ∙ (let spread : (number + 1) * (2 ^ (top - 1 - e) * (2 * 2 ^ e)) ≡ 2 * ((number + 1) * 2 ^ (top - 1 - e) * 2 ^ e) = omega arith in spread) in
-    let some : (number + 1) * 2 ^ (top - 1 - e) * 1 ≤ (number + 1) * 2 ^ (top - 1 - e) * 2 ^ e = mul-le-mul_left ((number + 1) * 2 ^ (top - 1 - e)) (pow_pos e) in
+    ap (λ n. (number + 1) * n) (sym (halves_whole top e below))
+    ∙ (let spread : (number + 1) * (2 ^ (top - 1 - e) * (2 * 2 ^ e))
+    ≡ 2 * ((number + 1) * 2 ^ (top - 1 - e) * 2 ^ e) =
+    omega arith in
+    spread) in
+    let some : (number + 1) * 2 ^ (top - 1 - e) * 1 ≤ (number + 1) * 2 ^ (top - 1 - e) * 2 ^ e =
+    mul-le-mul_left ((number + 1) * 2 ^ (top - 1 - e)) (pow_pos e) in
     omega (arith, all, some, inside)
 
 -- each layer of a group is one of those that lead through the cells
-pub layer_in_order : {A : Type 0} (order : Order) (k w from to done : ℕ) (near far : ℕ → A → A → A) (cells : ℕ → ℕ → A) → AreLayersInOrder order k w near far cells → done < to - from → to ≤ k
-    → IsLayer (2 ^ (k - 1 - layer_of order from to done)) (2 ^ layer_of order from to done * w) (λ b i. near b) (λ b i. far b) (cells (cells_of order from to done)) (cells (cells_of order from to (done + 1)))
+pub layer_in_order : {A : Type 0} (order : Order) (k w from to done : ℕ) (near far : ℕ → A → A → A) (cells : ℕ → ℕ → A)
+    → AreLayersInOrder order k w near far cells → done < to - from → to ≤ k
+    → IsLayer (2 ^ (k - 1 - layer_of order from to done)) (2 ^ layer_of order from to done * w) (λ b i. near b)
+    (λ b i. far b) (cells (cells_of order from to done)) (cells (cells_of order from to (done + 1)))
 layer_in_order LargestFirst k w from to done near far cells layers below within =
     let e = to - 1 - done in
     let before : e + 1 ≡ to - done = omega (arith, below) in
     let after : e ≡ to - (done + 1) = omega arith in
     subst (λ (m : ℕ). IsLayer (2 ^ (k - 1 - e)) (2 ^ e * w) (λ b i. near b) (λ b i. far b) (cells m) (cells (to - (done + 1)))) before
     (subst (λ (m : ℕ). IsLayer (2 ^ (k - 1 - e)) (2 ^ e * w) (λ b i. near b) (λ b i. far b) (cells (e + 1)) (cells m)) after
-    (λ b p. record { near_cell = λ i q. layers.near_cell e b i (omega (arith, below, within)) p q; far_cell = λ i q. layers.far_cell e b i (omega (arith, below, within)) p q }))
+    (λ b p. record {
+      near_cell = λ i q. layers.near_cell e b i (omega (arith, below, within)) p q;
+      far_cell = λ i q.
+          layers.far_cell e b i (omega (arith, below, within)) p q;
+    }))
 layer_in_order SmallestFirst k w from to done near far cells layers below within =
     let e = from + done in
     let after : e + 1 ≡ from + (done + 1) = omega arith in
     subst (λ (m : ℕ). IsLayer (2 ^ (k - 1 - e)) (2 ^ e * w) (λ b i. near b) (λ b i. far b) (cells e) (cells m)) after
-    (λ b p. record { near_cell = λ i q. layers.near_cell e b i (omega (arith, below, within)) p q; far_cell = λ i q. layers.far_cell e b i (omega (arith, below, within)) p q })
+    (λ b p. record {
+      near_cell = λ i q. layers.near_cell e b i (omega (arith, below, within)) p q;
+      far_cell = λ i q. layers.far_cell e b i (omega (arith, below, within)) p q;
+    })
 
 module _ {A T : Type 0} (value : T → A) (d : T) (at end : ℕ) where
-  pub columns_none : (part rows first : ℕ) (cells : ℕ → A) (xs : List T) → HoldsColumns value d part rows first at end cells xs → TakesColumns value d part rows first at end cells xs xs
+  pub columns_none : (part rows first : ℕ) (cells : ℕ → A) (xs : List T)
+      → HoldsColumns value d part rows first at end cells xs → TakesColumns value d part rows first at end cells xs xs
   columns_none part rows first cells xs holds = record { taken = holds; kept = λ r j p q o. refl }
 
   -- one layer more; the program has the sizes in variables of its own
@@ -108,15 +131,21 @@ module _ {A T : Type 0} (value : T → A) (d : T) (at end : ℕ) where
   columns_next part part_1 rows rows_1 first first_1 before after old now new part_is rows_is first_is layer so_far =
       let more = subst (λ (p : ℕ). HoldsColumns value d p rows first at end before now → TakesColumns value d p rows first at end after now new) part_is
       (subst (λ (n : ℕ). HoldsColumns value d part_1 n first at end before now → TakesColumns value d part_1 n first at end after now new) rows_is
-      (subst (λ (n : ℕ). HoldsColumns value d part_1 rows_1 n at end before now → TakesColumns value d part_1 rows_1 n at end after now new) first_is layer)) so_far.taken in
+      (subst (λ (n : ℕ). HoldsColumns value d part_1 rows_1 n at end before now → TakesColumns value d part_1 rows_1 n
+      at end after now new) first_is layer)) so_far.taken in
       record { taken = more.taken; kept = λ r j p q o. more.kept r j p q o ∙ so_far.kept r j p q o }
 
 -- what a layer counts on a piece of n cells of each part
-pub piece_layer_counted : (cost done rows blocks half n before now after : ℕ) → blocks * (2 * half) ≡ rows → 2 * now ≤ 2 * before + cost * (done * (rows * n)) → after ≤ now + cost * (blocks * (half * n))
+pub piece_layer_counted : (cost done rows blocks half n before now after : ℕ) → blocks * (2 * half) ≡ rows
+    → 2 * now ≤ 2 * before + cost * (done * (rows * n)) → after ≤ now + cost * (blocks * (half * n))
     → 2 * after ≤ 2 * before + cost * ((done + 1) * (rows * n))
 piece_layer_counted cost done rows blocks half n before now after is so_far layer =
-    let all : rows * n ≡ 2 * (blocks * (half * n)) = ap (λ m. m * n) (sym is) ∙ (let spread : blocks * (2 * half) * n ≡ 2 * (blocks * (half * n)) = omega arith in spread) in
-    let each : cost * (rows * n) ≡ 2 * (cost * (blocks * (half * n))) = ap (λ m. cost * m) all ∙ (let swap : cost * (2 * (blocks * (half * n))) ≡ 2 * (cost * (blocks * (half * n))) = omega arith in swap) in
+    let all : rows * n ≡ 2 * (blocks * (half * n)) =
+    ap (λ m. m * n) (sym is)
+    ∙ (let spread : blocks * (2 * half) * n ≡ 2 * (blocks * (half * n)) = omega arith in spread) in
+    let each : cost * (rows * n) ≡ 2 * (cost * (blocks * (half * n))) =
+    ap (λ m. cost * m) all
+    ∙ (let swap : cost * (2 * (blocks * (half * n))) ≡ 2 * (cost * (blocks * (half * n))) = omega arith in swap) in
     let next : cost * ((done + 1) * (rows * n)) ≡ cost * (done * (rows * n)) + cost * (rows * n) = omega arith in
     omega (arith, so_far, layer, each, next)
 
@@ -135,7 +164,8 @@ piece_start p piece part some full below =
     let all = div-add-mod' (part - 1) piece in
     omega (arith, less, all, full)
 
-pub piece_of : (p piece part_1 part rest : ℕ) → part_1 ≡ part → 1 ≤ piece → 1 ≤ part_1 → p < (part_1 - 1) / piece + 1 → rest ≡ min piece (part_1 - p * piece) → Piece p piece part rest
+pub piece_of : (p piece part_1 part rest : ℕ) → part_1 ≡ part → 1 ≤ piece → 1 ≤ part_1 → p < (part_1 - 1) / piece + 1
+    → rest ≡ min piece (part_1 - p * piece) → Piece p piece part rest
 piece_of p piece part_1 part rest is some full turn least =
     let start = piece_start p piece part_1 some full turn in
     let next : (p + 1) * piece ≡ p * piece + piece = omega arith in
@@ -164,12 +194,17 @@ cover_counted part all cover = omega (arith, cover)
 
 module _ {A T : Type 0} (value : T → A) (d : T) (part rows first : ℕ) where
   -- the columns of a piece are as they were at first
-  pub piece_held : (at end : ℕ) (from to : ℕ → A) (old now : List T) → length old ≡ rows * part → HoldsCells value d first from old → TakesColumns value d part rows first 0 at to old now → HoldsColumns value d part rows first at end from now
-  piece_held at end from to old now size holds so_far r j row column p q = ap value (so_far.kept r j row column (inr p)) ∙ holds (r * part + j) (omega (arith, row_below r j part rows row column, size))
+  pub piece_held : (at end : ℕ) (from to : ℕ → A) (old now : List T) → length old ≡ rows * part
+      → HoldsCells value d first from old → TakesColumns value d part rows first 0 at to old now
+      → HoldsColumns value d part rows first at end from now
+  piece_held at end from to old now size holds so_far r j row column p q =
+      ap value (so_far.kept r j row column (inr p))
+      ∙ holds (r * part + j) (omega (arith, row_below r j part rows row column, size))
 
   -- one piece more
   pub pieces_next : (at end all : ℕ) (to : ℕ → A) (old now new : List T) → at ≤ end → end ≤ all → ((j : ℕ) → j < part → j < all → j < end)
-      → TakesColumns value d part rows first 0 at to old now → TakesColumns value d part rows first at end to now new → TakesColumns value d part rows first 0 all to old new
+      → TakesColumns value d part rows first 0 at to old now → TakesColumns value d part rows first at end to now new →
+      TakesColumns value d part rows first 0 all to old new
   pieces_next at end all to old now new order within last so_far piece = record {
     taken = λ r j row column p q.
         ⊎_elim
@@ -182,7 +217,8 @@ module _ {A T : Type 0} (value : T → A) (d : T) (part rows first : ℕ) where
   }
 
   -- all pieces
-  pub pieces_all : (all : ℕ) (to : ℕ → A) (old now : List T) → 0 < part → part ≤ all → length now ≡ rows * part → TakesColumns value d part rows first 0 all to old now → HoldsCells value d first to now
+  pub pieces_all : (all : ℕ) (to : ℕ → A) (old now : List T) → 0 < part → part ≤ all → length now ≡ rows * part
+      → TakesColumns value d part rows first 0 all to old now → HoldsCells value d first to now
   pieces_all all to old now some cover size taken i inside =
       let column : i % part < part = mod_below i part some in
       let back : i / part * part + i % part ≡ i = div-add-mod' i part in
@@ -190,7 +226,8 @@ module _ {A T : Type 0} (value : T → A) (d : T) (part rows first : ℕ) where
       ∙ taken.taken (i / part) (i % part) (div_below i part rows some (omega (arith, inside, size))) column (omega arith) (omega (arith, column, cover))
       ∙ ap (λ n. to (first + n)) back
 
-pub pieces_counted : (cost layers rows at end before now after : ℕ) → at ≤ end → 2 * now ≤ 2 * before + cost * (layers * (rows * at)) → 2 * after ≤ 2 * now + cost * (layers * (rows * (end - at)))
+pub pieces_counted : (cost layers rows at end before now after : ℕ) → at ≤ end
+    → 2 * now ≤ 2 * before + cost * (layers * (rows * at)) → 2 * after ≤ 2 * now + cost * (layers * (rows * (end - at)))
     → 2 * after ≤ 2 * before + cost * (layers * (rows * end))
 pieces_counted cost layers rows at end before now after order so_far piece =
     let both : cost * (layers * (rows * (at + (end - at)))) ≡ cost * (layers * (rows * at)) + cost * (layers * (rows * (end - at))) = omega arith in
@@ -211,14 +248,22 @@ covered SmallestFirst r k count done = group_end r k (count - done) - r
 pub group_first : (order : Order) (r k count done : ℕ) → done < count
     → stand order r k count done ≡ cells_of order (group_end r k (group_of order count done + 1)) (group_end r k (group_of order count done)) 0
 group_first LargestFirst r k count done below = let e : r + (k - r - 3 * done) ≡ r + (k - r - 3 * done) - 0 = omega arith in e
-group_first SmallestFirst r k count done below = let e : r + (k - r - 3 * (count - done)) ≡ r + (k - r - 3 * (count - 1 - done + 1)) + 0 = omega (arith, below) in e
+group_first SmallestFirst r k count done below =
+    let e : r + (k - r - 3 * (count - done)) ≡ r + (k - r - 3 * (count - 1 - done + 1)) + 0 = omega (arith, below) in e
 
 pub group_last : (order : Order) (r k count done : ℕ) → done < count
-    → cells_of order (group_end r k (group_of order count done + 1)) (group_end r k (group_of order count done)) (group_end r k (group_of order count done) - group_end r k (group_of order count done + 1))
+    → cells_of order (group_end r k (group_of order count done + 1)) (group_end r k (group_of order count done))
+    (group_end r k (group_of order count done) - group_end r k (group_of order count done + 1))
     ≡ stand order r k count (done + 1)
-group_last LargestFirst r k count done below = let e : r + (k - r - 3 * done) - (r + (k - r - 3 * done) - (r + (k - r - 3 * (done + 1)))) ≡ r + (k - r - 3 * (done + 1)) = omega arith in e
+group_last LargestFirst r k count done below =
+    let e : r + (k - r - 3 * done) - (r + (k - r - 3 * done) - (r + (k - r - 3 * (done + 1))))
+    ≡ r + (k - r - 3 * (done + 1)) =
+    omega arith in
+    e
 group_last SmallestFirst r k count done below =
-    let e : r + (k - r - 3 * (count - 1 - done + 1)) + (r + (k - r - 3 * (count - 1 - done)) - (r + (k - r - 3 * (count - 1 - done + 1)))) ≡ r + (k - r - 3 * (count - (done + 1))) = omega (arith, below) in e
+    let e : r + (k - r - 3 * (count - 1 - done + 1))
+    + (r + (k - r - 3 * (count - 1 - done)) - (r + (k - r - 3 * (count - 1 - done + 1))))
+    ≡ r + (k - r - 3 * (count - (done + 1))) = omega (arith, below) in e
 
 pub stand_first : (order : Order) (r k count : ℕ) → r ≤ k → k - r ≤ 3 * count → cells_of order r k 0 ≡ stand order r k count 0
 stand_first LargestFirst r k count order enough = let e : k - 0 ≡ r + (k - r - 3 * 0) = omega (arith, order) in e
@@ -233,18 +278,25 @@ covered_first LargestFirst r k count order enough = let e : k - (r + (k - r - 3 
 covered_first SmallestFirst r k count order enough = let e : r + (k - r - 3 * (count - 0)) - r ≡ 0 = omega (arith, enough) in e
 
 pub covered_next : (order : Order) (r k count done : ℕ) → r ≤ k → done < count
-    → covered order r k count (done + 1) ≡ covered order r k count done + (group_end r k (group_of order count done) - group_end r k (group_of order count done + 1))
+    → covered order r k count (done + 1)
+    ≡ covered order r k count done
+    + (group_end r k (group_of order count done) - group_end r k (group_of order count done + 1))
 covered_next LargestFirst r k count done order below =
-    let e : k - (r + (k - r - 3 * (done + 1))) ≡ k - (r + (k - r - 3 * done)) + (r + (k - r - 3 * done) - (r + (k - r - 3 * (done + 1)))) = omega (arith, order) in e
+    let e : k - (r + (k - r - 3 * (done + 1))) ≡ k - (r + (k - r - 3 * done)) + (r + (k - r - 3 * done) - (r + (k - r - 3 * (done + 1)))) =
+    omega (arith, order) in e
 covered_next SmallestFirst r k count done order below =
-    let e : r + (k - r - 3 * (count - (done + 1))) - r ≡ r + (k - r - 3 * (count - done)) - r + (r + (k - r - 3 * (count - 1 - done)) - (r + (k - r - 3 * (count - 1 - done + 1)))) = omega (arith, order, below) in e
+    let e : r + (k - r - 3 * (count - (done + 1))) - r
+    ≡ r + (k - r - 3 * (count - done)) - r + (r + (k - r - 3 * (count - 1 - done)) - (r + (k - r - 3 * (count - 1 - done + 1)))) =
+    omega (arith, order, below) in e
 
 pub covered_last : (order : Order) (r k count : ℕ) → r ≤ k → k - r ≤ 3 * count → covered order r k count count ≡ k - r
 covered_last LargestFirst r k count order enough = let e : k - (r + (k - r - 3 * count)) ≡ k - r = omega (arith, order, enough) in e
 covered_last SmallestFirst r k count order enough = let e : r + (k - r - 3 * (count - count)) - r ≡ k - r = omega arith in e
 
 -- layers more, each of which counts so much
-pub layers_more : (cost done more all size before now after : ℕ) → all ≡ done + more → 2 * now ≤ 2 * before + cost * (done * size) → 2 * after ≤ 2 * now + cost * (more * size) → 2 * after ≤ 2 * before + cost * (all * size)
+pub layers_more : (cost done more all size before now after : ℕ) → all ≡ done + more
+    → 2 * now ≤ 2 * before + cost * (done * size) → 2 * after ≤ 2 * now + cost * (more * size)
+    → 2 * after ≤ 2 * before + cost * (all * size)
 layers_more cost done more all size before now after is so_far group =
     let both : cost * ((done + more) * size) ≡ cost * (done * size) + cost * (more * size) = omega arith in
     omega (arith, so_far, group, both, ap (λ n. cost * (n * size)) is)

@@ -1,5 +1,6 @@
 -- A chunk whose halves go through their layers by themselves, and the layer that joins them, by decimation in frequency, with a scale.
-use Rattle.std.proofs.Common.{◌≡◌, ℕ, ◌+◌, ◌*◌, ◌-◌, ◌/◌, ◌++◌, ◌<◌, ◌≤◌, ◌^◌, List, length, get_or, take, drop, sym, ap, ap₂, ◌∙◌, refl, [], ◌∷◌, subst, arith, rules, length-append, ⊎_elim}
+use Rattle.std.proofs.Common.{◌≡◌, ℕ, ◌+◌, ◌*◌, ◌-◌, ◌/◌, ◌++◌, ◌<◌, ◌≤◌, ◌^◌, List, length, get_or, take, drop, sym}
+use Rattle.std.proofs.Common.{ap, ap₂, ◌∙◌, refl, [], ◌∷◌, subst, arith, rules, length-append, ⊎_elim}
 use Rattle.std.proofs.lemmas.Bool.{cases_lt}
 use Rattle.std.proofs.lemmas.List.{places}
 use Rattle.std.proofs.lemmas.Nat.{pow_pos}
@@ -103,11 +104,14 @@ scaled_layers R entry s k w cells layers = record {
       ∙ solve R (s ∷ cells e (b * (2 * (2 ^ e * w)) + i) ∷ cells e (b * (2 * (2 ^ e * w)) + (2 ^ e * w + i)) ∷ []) ((vb ⊞ vc) ⊠ va) (vb ⊠ va ⊞ vc ⊠ va) refl;
   far_cell = λ e b i below block inside.
       ap (λ y. R.mul y s) (layers.far_cell e b i below block inside)
-      ∙ solve R (s ∷ cells e (b * (2 * (2 ^ e * w)) + i) ∷ cells e (b * (2 * (2 ^ e * w)) + (2 ^ e * w + i)) ∷ entry b ∷ []) ((vb ⊟ vc) ⊠ vd ⊠ va) ((vb ⊠ va ⊟ vc ⊠ va) ⊠ vd) refl;
+      ∙ solve R
+      (s ∷ cells e (b * (2 * (2 ^ e * w)) + i) ∷ cells e (b * (2 * (2 ^ e * w)) + (2 ^ e * w + i)) ∷ entry b ∷ [])
+      ((vb ⊟ vc) ⊠ vd ⊠ va) ((vb ⊠ va ⊟ vc ⊠ va) ⊠ vd) refl;
 }
 
 -- the products of both halves and of the layer that joins them
-pub joined_counted : (m h before low high after : ℕ) → 2 * low ≤ 2 * before + 1 * (m * h) → 2 * high ≤ 2 * low + 1 * (m * h) → after ≡ high + 2 * h → 2 * after ≤ 2 * before + (m + 1 + 2) * (2 * h)
+pub joined_counted : (m h before low high after : ℕ) → 2 * low ≤ 2 * before + 1 * (m * h)
+    → 2 * high ≤ 2 * low + 1 * (m * h) → after ≡ high + 2 * h → 2 * after ≤ 2 * before + (m + 1 + 2) * (2 * h)
 joined_counted m h before low high after first second last =
     let spread : (m + 1 + 2) * (2 * h) ≡ 2 * (m * h) + 6 * h = omega arith in
     omega (arith, first, second, last, spread)

@@ -1,5 +1,6 @@
 -- Entries that are multiplied by a first factor and the powers of a base: in two parts, by packs, and by columns.
-use Rattle.std.proofs.Common.{◌≡◌, ℕ, ◌+◌, ◌*◌, ◌-◌, ◌/◌, ◌%◌, ◌<◌, ◌≤◌, List, ◌++◌, length, get_or, take, drop, map, sym, ap, ap₂, ◌∙◌, arith, subst, ⊎_elim, mod-lt}
+use Rattle.std.proofs.Common.{◌≡◌, ℕ, ◌+◌, ◌*◌, ◌-◌, ◌/◌, ◌%◌, ◌<◌, ◌≤◌, List, ◌++◌, length, get_or, take, drop, map}
+use Rattle.std.proofs.Common.{sym, ap, ap₂, ◌∙◌, arith, subst, ⊎_elim, mod-lt}
 use Rattle.std.proofs.lemmas.Bool.{cases_lt}
 use Rattle.std.proofs.lemmas.List.{get_or_append_left, get_or-append-add, get_or-map, length-append, length-map, map-append, take-append-drop}
 use Rattle.std.proofs.Math.Nat.{div-add-mod, lt_of_mul-lt-mul_right}
@@ -26,7 +27,8 @@ module _ {A : Type 0} (R : Ring A) where
   pub power_of_column : (shift step : A) (i j : ℕ) → R.mul (power R shift i) (power R (power R step i) j) ≡ power R (R.mul shift (power R step j)) i
   power_of_column shift step i j =
       let turned : i * j ≡ j * i = omega arith in
-      ap (R.mul (power R shift i)) (sym (power-mul R step i j) ∙ ap (power R step) turned ∙ power-mul R step j i) ∙ sym (power_of_product R shift (power R step j) i)
+      ap (R.mul (power R shift i)) (sym (power-mul R step i j) ∙ ap (power R step) turned ∙ power-mul R step j i)
+      ∙ sym (power_of_product R shift (power R step j) i)
 
 module _ {F A : Type 0} (R : Ring A) (v : F → A) (z : F) where
   -- each entry of xs is multiplied by its factor
@@ -55,7 +57,9 @@ module _ {F A : Type 0} (R : Ring A) (v : F → A) (z : F) where
 
   -- pack after pack
   pub scaled_by_packs : (first base : A) (w n : ℕ) (xs ys : List F) → 1 ≤ w → length xs ≡ n * w
-      → ((p k : ℕ) → p < n → k < w → v (get_or ys (p * w + k) z) ≡ R.mul (v (get_or xs (p * w + k) z)) (factor R first base (p * w + k))) → IsScaled first base xs ys
+      → ((p k : ℕ) → p < n → k < w
+      → v (get_or ys (p * w + k) z) ≡ R.mul (v (get_or xs (p * w + k) z)) (factor R first base (p * w + k))) →
+      IsScaled first base xs ys
   scaled_by_packs first base w n xs ys wide long packs i below =
       let p = i / w in
       let k = i % w in
@@ -74,7 +78,9 @@ module _ {F A : Type 0} (v : F → A) where
 
   -- where a front was written over by the same values
   pub restored : (w : ℕ) (xs part : List F) → map v part ≡ map v (take w xs) → map v (part ++ drop w xs) ≡ map v xs
-  restored w xs part same = map-append v part (drop w xs) ∙ ap (λ ys. ys ++ map v (drop w xs)) same ∙ sym (map-append v (take w xs) (drop w xs)) ∙ ap (map v) (take-append-drop w xs)
+  restored w xs part same =
+      map-append v part (drop w xs) ∙ ap (λ ys. ys ++ map v (drop w xs)) same
+      ∙ sym (map-append v (take w xs) (drop w xs)) ∙ ap (map v) (take-append-drop w xs)
 
 -- the packs are all of a list
 pub whole_packs : (len k w width : ℕ) → 1 ≤ w → width ≡ w → len ≡ k * w → len ≡ len / width * width

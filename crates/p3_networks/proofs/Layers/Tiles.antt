@@ -49,10 +49,13 @@ tile_some k r w tiles size len sizes wide = let rows : 1 * 1 ≤ 2 ^ r * w = mul
 
 -- what all tiles cost, by what one costs
 pub tiles_cost : (k r w tiles size len each : ℕ) → TileSizes k r w tiles size len → tiles * (each * size) ≡ each * len
-tiles_cost k r w tiles size len each sizes = let swap : tiles * (each * size) ≡ each * (tiles * size) = omega arith in swap ∙ ap (λ n. each * n) (sym sizes.whole)
+tiles_cost k r w tiles size len each sizes =
+    let swap : tiles * (each * size) ≡ each * (tiles * size) = omega arith in
+    swap ∙ ap (λ n. each * n) (sym sizes.whole)
 
 -- tiles of chunk `number` of 2 ^ k rows, among those of all such chunks
-pub tile_rows_of_chunk : (k r w tiles size len number tile : ℕ) → TileSizes k r w tiles size len → tile < tiles → (number * tiles + tile + 1) * 2 ^ r ≤ (number + 1) * 2 ^ k
+pub tile_rows_of_chunk : (k r w tiles size len number tile : ℕ) → TileSizes k r w tiles size len → tile < tiles
+    → (number * tiles + tile + 1) * 2 ^ r ≤ (number + 1) * 2 ^ k
 tile_rows_of_chunk k r w tiles size len number tile sizes inside =
     let spread : (number * tiles + tile + 1) * 2 ^ r ≡ number * (tiles * 2 ^ r) + (tile + 1) * 2 ^ r = omega arith in
     let all : number * (tiles * 2 ^ r) ≡ number * 2 ^ k = ap (λ n. number * n) sizes.rows in
@@ -81,14 +84,17 @@ spread_sizes r a small added =
     }
 
 -- the rows of a tile are some of all
-pub spread_room : (k r a w tiles size len tile : ℕ) → a ≤ r → r ≤ k → TileSizes k r w tiles size len → tile < tiles → tile * 2 ^ (r - a) + 2 ^ (r - a) ≤ 2 ^ (k - a)
+pub spread_room : (k r a w tiles size len tile : ℕ) → a ≤ r → r ≤ k → TileSizes k r w tiles size len → tile < tiles
+    → tile * 2 ^ (r - a) + 2 ^ (r - a) ≤ 2 ^ (k - a)
 spread_room k r a w tiles size len tile added below sizes inside =
     let parts : k - r + (r - a) ≡ k - a = omega (arith, added, below) in
     let all : tiles * 2 ^ (r - a) ≡ 2 ^ (k - a) = ap (λ n. n * 2 ^ (r - a)) sizes.tiles_is ∙ sym (pow-add 2 (k - r) (r - a)) ∙ ap (λ n. 2 ^ n) parts in
     block_room tile tiles (2 ^ (r - a)) (2 ^ (k - a)) inside (sym all)
 
 -- and a tile holds its cells where each cell of the whole, by row, copy and column, is the one that was made
-pub spread_held : {A T : Type 0} (value : T → A) (d : T) (cells : ℕ → A) (made : ℕ → ℕ → ℕ → A) (tile count copies all w : ℕ) (out : List T) → 0 < w → length out ≡ count * (copies * w)
+pub spread_held : {A T : Type 0} (value : T → A) (d : T) (cells : ℕ → A) (made : ℕ → ℕ → ℕ → A)
+    (tile count copies all w : ℕ) (out : List T)
+    → 0 < w → length out ≡ count * (copies * w)
     → tile * count + count ≤ all → 0 < copies
     → ((q t j : ℕ) → q < all → t < copies → j < w → cells ((q * copies + t) * w + j) ≡ made q t j)
     → ((q t j : ℕ) → q < count → t < copies → j < w → value (get_or out ((q * copies + t) * w + j) d) ≡ made (tile * count + q) t j)
@@ -109,10 +115,12 @@ spread_held value d cells made tile count copies all w out wide size room some a
     ∙ ap cells (spread ∙ ap₂ (λ m n. tile * m + n) (sym size) place)
 
 -- where each tile takes the cells that it holds by some layers, so do all tiles
-pub tiles_taken : {T A : Type 0} (value_before value : T → A) (d : T) (k r w tiles size : ℕ) (order : Order) (near far : ℕ → A → A → A) (from to : ℕ) (cells : ℕ → ℕ → A) (before after : List T)
+pub tiles_taken : {T A : Type 0} (value_before value : T → A) (d : T) (k r w tiles size : ℕ) (order : Order)
+    (near far : ℕ → A → A → A) (from to : ℕ) (cells : ℕ → ℕ → A) (before after : List T)
     → TileSizes k r w tiles size (length before) → 1 ≤ w → length after ≡ length before
     → ((n : ℕ) → n < tiles → TakesCells value_before value d order w r n near far from to (chunk_of size n before) (chunk_of size n after))
     → AreLayersInOrder order k w near far cells → HoldsCells value_before d 0 (cells from) before → HoldsCells value d 0 (cells to) after
 tiles_taken value_before value d k r w tiles size order near far from to cells before after sizes wide len each layers =
-    cells_of_chunks d size value_before value (cells from) (cells to) 0 tiles (λ n s. n * s) before after (tile_some _ _ _ _ _ _ sizes wide) sizes.whole len (λ n. omega arith)
+    cells_of_chunks d size value_before value (cells from) (cells to) 0 tiles (λ n s. n * s) before after
+    (tile_some _ _ _ _ _ _ sizes wide) sizes.whole len (λ n. omega arith)
     (λ n below held. (each n below).taken k cells layers (tile_rows _ _ _ _ _ _ n sizes below) held)

@@ -33,29 +33,39 @@ module _ {A : Type 0} {bits : ℕ} {half_of : ℕ → ℕ → ℕ} {near_of far_
   high_at b half t j = omega arith
 
   pub near_cells : (l m b i half : ℕ) → 0 < w → suc l + m ≤ bits → half ≡ half_of l m → i < half * w
-      → cell (suc l) m (b * (2 * (half * w)) + i) ≡ near_of l m b (i / w) (cell l (suc m) (b * (2 * (half * w)) + i)) (cell l (suc m) (b * (2 * (half * w)) + (half * w + i)))
+      → cell (suc l) m (b * (2 * (half * w)) + i)
+      ≡ near_of l m b (i / w) (cell l (suc m) (b * (2 * (half * w)) + i))
+      (cell l (suc m) (b * (2 * (half * w)) + (half * w + i)))
   near_cells l m b i half wide within is inside =
       let t = i / w in
       let j = i % w in
       let column : j < w = mod_below i w wide in
       let row : t < half = div_below i w half wide inside in
-      subst (λ (n : ℕ). cell (suc l) m (b * (2 * (half * w)) + n) ≡ near_of l m b t (cell l (suc m) (b * (2 * (half * w)) + n)) (cell l (suc m) (b * (2 * (half * w)) + (half * w + n)))) (div-add-mod' i w)
+      subst (λ (n : ℕ). cell (suc l) m (b * (2 * (half * w)) + n)
+      ≡ near_of l m b t (cell l (suc m) (b * (2 * (half * w)) + n))
+      (cell l (suc m) (b * (2 * (half * w)) + (half * w + n)))) (div-add-mod' i w)
       (ap (cell (suc l) m) (low_at b half t j) ∙ at_row (suc l) m (b * (2 * half) + t) j column
-      ∙ subst (λ (h : ℕ). rows j (suc l) m (b * (2 * h) + t) ≡ near_of l m b t (rows j l (suc m) (b * (2 * h) + t)) (rows j l (suc m) (b * (2 * h) + (h + t)))) (sym is)
+      ∙ subst (λ (h : ℕ). rows j (suc l) m (b * (2 * h) + t)
+      ≡ near_of l m b t (rows j l (suc m) (b * (2 * h) + t)) (rows j l (suc m) (b * (2 * h) + (h + t)))) (sym is)
       ((formula j).near_row l m b t within (subst (λ (h : ℕ). t < h) is row))
       ∙ sym (ap₂ (near_of l m b t) (ap (cell l (suc m)) (low_at b half t j) ∙ at_row l (suc m) (b * (2 * half) + t) j column)
       (ap (cell l (suc m)) (high_at b half t j) ∙ at_row l (suc m) (b * (2 * half) + (half + t)) j column)))
 
   pub far_cells : (l m b i half : ℕ) → 0 < w → suc l + m ≤ bits → half ≡ half_of l m → i < half * w
-      → cell (suc l) m (b * (2 * (half * w)) + (half * w + i)) ≡ far_of l m b (i / w) (cell l (suc m) (b * (2 * (half * w)) + i)) (cell l (suc m) (b * (2 * (half * w)) + (half * w + i)))
+      → cell (suc l) m (b * (2 * (half * w)) + (half * w + i))
+      ≡ far_of l m b (i / w) (cell l (suc m) (b * (2 * (half * w)) + i))
+      (cell l (suc m) (b * (2 * (half * w)) + (half * w + i)))
   far_cells l m b i half wide within is inside =
       let t = i / w in
       let j = i % w in
       let column : j < w = mod_below i w wide in
       let row : t < half = div_below i w half wide inside in
-      subst (λ (n : ℕ). cell (suc l) m (b * (2 * (half * w)) + (half * w + n)) ≡ far_of l m b t (cell l (suc m) (b * (2 * (half * w)) + n)) (cell l (suc m) (b * (2 * (half * w)) + (half * w + n)))) (div-add-mod' i w)
+      subst (λ (n : ℕ). cell (suc l) m (b * (2 * (half * w)) + (half * w + n))
+      ≡ far_of l m b t (cell l (suc m) (b * (2 * (half * w)) + n))
+      (cell l (suc m) (b * (2 * (half * w)) + (half * w + n)))) (div-add-mod' i w)
       (ap (cell (suc l) m) (high_at b half t j) ∙ at_row (suc l) m (b * (2 * half) + (half + t)) j column
-      ∙ subst (λ (h : ℕ). rows j (suc l) m (b * (2 * h) + (h + t)) ≡ far_of l m b t (rows j l (suc m) (b * (2 * h) + t)) (rows j l (suc m) (b * (2 * h) + (h + t)))) (sym is)
+      ∙ subst (λ (h : ℕ). rows j (suc l) m (b * (2 * h) + (h + t))
+      ≡ far_of l m b t (rows j l (suc m) (b * (2 * h) + t)) (rows j l (suc m) (b * (2 * h) + (h + t)))) (sym is)
       ((formula j).far_row l m b t within (subst (λ (h : ℕ). t < h) is row))
       ∙ sym (ap₂ (far_of l m b t) (ap (cell l (suc m)) (low_at b half t j) ∙ at_row l (suc m) (b * (2 * half) + t) j column)
       (ap (cell l (suc m)) (high_at b half t j) ∙ at_row l (suc m) (b * (2 * half) + (half + t)) j column)))
@@ -79,7 +89,9 @@ module _ {A : Type 0} (R : Ring A) {g : ℕ → A} {bits : ℕ} (G : AreRoots R 
       rows : ℕ → ℕ → ℕ → ℕ → A
       rows j l m r = high_row R g R.one l m (c j) r
 
-      formula : (j : ℕ) → Formula bits (λ l m. 2 ^ m) (λ l m b t. dit_near R (twiddle R g R.one l m (rev l b))) (λ l m b t. dit_far R (twiddle R g R.one l m (rev l b))) (rows j)
+      formula : (j : ℕ)
+          → Formula bits (λ l m. 2 ^ m) (λ l m b t. dit_near R (twiddle R g R.one l m (rev l b)))
+          (λ l m b t. dit_far R (twiddle R g R.one l m (rev l b))) (rows j)
       formula j = high_rows R g R.one G (c j)
 
       after : (e n : ℕ) → e < k → high_cells e n ≡ cell rows formula w (suc (k - 1 - e)) e n
@@ -111,7 +123,9 @@ module _ {A : Type 0} (R : Ring A) {g : ℕ → A} {bits : ℕ} (G : AreRoots R 
       rows : ℕ → ℕ → ℕ → ℕ → A
       rows j l m r = twisted_row R g R.one l m (c j) r
 
-      formula : (j : ℕ) → Formula bits (λ l m. 2 ^ l) (λ l m b t. dif_near R (power R (g (suc m)) (rev m b))) (λ l m b t. dif_far R (power R (g (suc m)) (rev m b))) (rows j)
+      formula : (j : ℕ)
+          → Formula bits (λ l m. 2 ^ l) (λ l m b t. dif_near R (power R (g (suc m)) (rev m b)))
+          (λ l m b t. dif_far R (power R (g (suc m)) (rev m b))) (rows j)
       formula j = twisted_rows R g R.one G (c j)
 
       after : (e n : ℕ) → twisted_cells (e + 1) n ≡ cell rows formula w (suc e) (k - 1 - e) n
@@ -140,7 +154,8 @@ module _ {A : Type 0} (R : Ring A) {g : ℕ → A} {bits : ℕ} (G : AreRoots R 
       ap (high_cells 0) plain ∙ ap₂ (λ a b. high_row R g R.one (k - 0) 0 (c a) b) (mod-mul-add r w j inside) (div-mul-add r w j inside)
       ∙ ap (λ l. high_row R g R.one l 0 (c j) r) all ∙ high_end R g R.one k (c j) r ∙ ap (poly R (2 ^ k) (c j)) (point_of_one R g k (rev k r))
 
-  pub twisted_cells_start : 0 < w → (x : ℕ → A) → ((q j : ℕ) → q < 2 ^ k → c j (rev k q) ≡ x (q * w + j)) → (i : ℕ) → i < 2 ^ k * w → x i ≡ twisted_cells 0 (0 + i)
+  pub twisted_cells_start : 0 < w → (x : ℕ → A) → ((q j : ℕ) → q < 2 ^ k → c j (rev k q) ≡ x (q * w + j)) → (i : ℕ)
+      → i < 2 ^ k * w → x i ≡ twisted_cells 0 (0 + i)
   twisted_cells_start wide x are i inside =
       let all : k - 0 ≡ k = omega arith in
       let plain : 0 + i ≡ i = omega arith in

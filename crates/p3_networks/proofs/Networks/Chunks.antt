@@ -23,7 +23,8 @@ unfolding poly
 next_place R n m c j x = ap₂ (λ a b. R.add a (R.mul (power R x m) b)) (ap c (omega arith)) (poly_same R n _ _ (power R x m) (λ q p. ap c (omega arith)))
 
 -- n * m coefficients, by those at every m-th place: their n values at the m-th power are the coefficients of a polynomial with the value of the whole
-pub poly_by_places : {A : Type 0} (R : Ring A) (n m : ℕ) (c : ℕ → A) (x : A) → poly R (n * m) c x ≡ poly R m (λ j. poly R n (λ q. c (q * m + j)) (power R x m)) x
+pub poly_by_places : {A : Type 0} (R : Ring A) (n m : ℕ) (c : ℕ → A) (x : A)
+    → poly R (n * m) c x ≡ poly R m (λ j. poly R n (λ q. c (q * m + j)) (power R x m)) x
 poly_by_places R zero m c x =
     let none : 0 * m ≡ 0 = omega arith in
     ap (λ k. poly R k c x) none ∙ poly-none R c x ∙ sym (poly_zeros R m _ x (λ j p. poly-none R _ _))
@@ -50,17 +51,21 @@ module _ {A : Type 0} (R : Ring A) {g : ℕ → A} {bits : ℕ} (G : AreRoots R 
       let e = left - 1 - done in
       let f : mid + left - 1 - (mid + done) ≡ e = omega arith in
       let order : mid + done ≡ done + mid = omega arith in
-      let digits : rev (mid + done) (b * 2 ^ done + u) ≡ rev done u * 2 ^ mid + rev mid b = ap (λ n. rev n (b * 2 ^ done + u)) order ∙ rev-block done mid b u inside in
+      let digits : rev (mid + done) (b * 2 ^ done + u) ≡ rev done u * 2 ^ mid + rev mid b =
+      ap (λ n. rev n (b * 2 ^ done + u)) order ∙ rev-block done mid b u inside in
       let top : mid + done + 1 ≡ suc done + mid = omega arith in
       let whole : mid + done + 1 + e ≡ mid + left = omega arith in
       let first : power R (g (mid + done + 1)) (rev done u * 2 ^ mid) ≡ power R (g (suc done)) (rev done u) =
       ap (λ n. power R (g n) (rev done u * 2 ^ mid)) top ∙ root_strided R G (suc done) mid (rev done u) (omega arith) in
       let second : power R (g (mid + done + 1)) (rev mid b) ≡ power R (power R (g (mid + left)) (rev mid b)) (2 ^ e) =
-      sym (root_strided R G (mid + done + 1) e (rev mid b) (omega arith)) ∙ ap (λ n. power R (g n) (rev mid b * 2 ^ e)) whole ∙ power-mul R (g (mid + left)) (rev mid b) (2 ^ e) in
+      sym (root_strided R G (mid + done + 1) e (rev mid b) (omega arith))
+      ∙ ap (λ n. power R (g n) (rev mid b * 2 ^ e)) whole ∙ power-mul R (g (mid + left)) (rev mid b) (2 ^ e) in
       ap₂ (λ n t. power R s (2 ^ n) ⊗ power R (g (mid + done + 1)) t) f digits
       ∙ ap (λ x. power R s (2 ^ e) ⊗ x) (power-add R (g (mid + done + 1)) (rev done u * 2 ^ mid) (rev mid b) ∙ ap₂ ◌⊗◌ first second)
-      ∙ solve R (power R s (2 ^ e) ∷ power R (g (suc done)) (rev done u) ∷ power R (power R (g (mid + left)) (rev mid b)) (2 ^ e) ∷ []) (va ⊠ (vb ⊠ vc)) ((va ⊠ vc) ⊠ vb) refl
-      ∙ ap (λ x. x ⊗ power R (g (suc done)) (rev done u)) (sym (ap (λ x. power R x (2 ^ e)) (point-mul R g (mid + left) s (rev mid b)) ∙ power_of_product R s _ (2 ^ e)))
+      ∙ solve R (power R s (2 ^ e) ∷ power R (g (suc done)) (rev done u) ∷ power R
+      (power R (g (mid + left)) (rev mid b)) (2 ^ e) ∷ []) (va ⊠ (vb ⊠ vc)) ((va ⊠ vc) ⊠ vb) refl
+      ∙ ap (λ x. x ⊗ power R (g (suc done)) (rev done u)) (sym
+      (ap (λ x. power R x (2 ^ e)) (point-mul R g (mid + left) s (rev mid b)) ∙ power_of_product R s _ (2 ^ e)))
 
   -- where the chunks of the second half end: at the points of the whole, in bit reversed order
   pub chunk_point : (mid left a t : ℕ) → mid + left ≤ bits → t < 2 ^ left
@@ -70,7 +75,8 @@ module _ {A : Type 0} (R : Ring A) {g : ℕ → A} {bits : ℕ} (G : AreRoots R 
       let digits = row_digits mid left a t inside in
       let root : power R (g (mid + left)) (rev left t * 2 ^ mid) ≡ power R (g left) (rev left t) =
       ap (λ n. power R (g n) (rev left t * 2 ^ mid)) order ∙ root_strided R G left mid (rev left t) (omega arith) in
-      point-mul R g left (point R g (mid + left) s (rev mid a)) (rev left t) ∙ ap (λ x. x ⊗ power R (g left) (rev left t)) (point-mul R g (mid + left) s (rev mid a))
+      point-mul R g left (point R g (mid + left) s (rev mid a)) (rev left t)
+      ∙ ap (λ x. x ⊗ power R (g left) (rev left t)) (point-mul R g (mid + left) s (rev mid a))
       ∙ solve R (s ∷ power R (g (mid + left)) (rev mid a) ∷ power R (g left) (rev left t) ∷ []) ((va ⊠ vb) ⊠ vc) (va ⊠ (vc ⊠ vb)) refl
       ∙ ap (λ x. s ⊗ (x ⊗ power R (g (mid + left)) (rev mid a))) (sym root)
       ∙ ap (λ x. s ⊗ x) (sym (power-add R (g (mid + left)) (rev left t * 2 ^ mid) (rev mid a)) ∙ ap (power R (g (mid + left))) (sym digits))
@@ -85,8 +91,10 @@ module _ {A : Type 0} (R : Ring A) {g : ℕ → A} {bits : ℕ} (G : AreRoots R 
       let y = power R (g left) (rev left t) in
       let round : power R y n ≡ R.one = sym (power-mul R (g left) (rev left t) n) ∙ root_all R G left (rev left t) (omega arith) in
       let lower : power R x n ≡ power R (g mid) (rev mid a) = sym (power-mul R (g (mid + left)) (rev mid a) n) ∙ root_strided R G mid left (rev mid a) within in
-      ap (λ z. power R z n) (point-mul R g left (point R g (mid + left) s (rev mid a)) (rev left t) ∙ ap (λ z. z ⊗ y) (point-mul R g (mid + left) s (rev mid a)))
-      ∙ power_of_product R (s ⊗ x) y n ∙ ap₂ ◌⊗◌ (power_of_product R s x n ∙ ap (λ z. power R s n ⊗ z) lower) round ∙ R.mul_one (power R s n ⊗ power R (g mid) (rev mid a))
+      ap (λ z. power R z n) (point-mul R g left (point R g (mid + left) s (rev mid a)) (rev left t)
+      ∙ ap (λ z. z ⊗ y) (point-mul R g (mid + left) s (rev mid a)))
+      ∙ power_of_product R (s ⊗ x) y n ∙ ap₂ ◌⊗◌ (power_of_product R s x n ∙ ap (λ z. power R s n ⊗ z) lower) round ∙
+      R.mul_one (power R s n ⊗ power R (g mid) (rev mid a))
       ∙ sym (point-mul R g mid (power R s n) (rev mid a))
 
   -- both halves: the second makes of what the first made, with the rows in bit reversed order, the values of the whole, times a scale
@@ -107,7 +115,8 @@ module _ {A : Type 0} (R : Ring A) {g : ℕ → A} {bits : ℕ} (G : AreRoots R 
       ∙ ap₂ (λ k z. poly R k (λ u. c u ⊗ scale) z) (sym (pow-add 2 mid left)) (chunk_point mid left a t within inside)
 
   -- a slot of an extension by a bits ends at its points of the whole, in bit reversed order
-  pub slot_point : (k a m t : ℕ) → k + a ≤ bits → t < 2 ^ k → point R g k (point R g (k + a) s (rev a m)) (rev k t) ≡ point R g (k + a) s (rev (k + a) (m * 2 ^ k + t))
+  pub slot_point : (k a m t : ℕ) → k + a ≤ bits → t < 2 ^ k
+      → point R g k (point R g (k + a) s (rev a m)) (rev k t) ≡ point R g (k + a) s (rev (k + a) (m * 2 ^ k + t))
   slot_point k a m t within inside =
       let order : k + a ≡ a + k = omega arith in
       ap (λ n. point R g k (point R g n s (rev a m)) (rev k t)) order
@@ -120,7 +129,8 @@ module _ {A : Type 0} (R : Ring A) {g : ℕ → A} {bits : ℕ} (G : AreRoots R 
       → ((a t j : ℕ) → a < 2 ^ left → t < 2 ^ mid → j < w → value (get_or middle ((a * 2 ^ mid + t) * w + j) d)
       ≡ poly R (2 ^ mid) (λ q. value (get_or before ((a * 2 ^ mid + rev mid q) * w + j) d)) (point R g mid (power R s (2 ^ left)) t))
       → ((a t j : ℕ) → a < n → t < 2 ^ left → j < w → value (get_or after ((a * 2 ^ left + t) * w + j) d)
-      ≡ poly R (2 ^ left) (λ q. value (get_or middle ((rev left q * 2 ^ mid + rev mid a) * w + j) d)) (point R g left (point R g (mid + left) s (rev mid a)) (rev left t)))
+      ≡ poly R (2 ^ left) (λ q. value (get_or middle ((rev left q * 2 ^ mid + rev mid a) * w + j) d))
+      (point R g left (point R g (mid + left) s (rev mid a)) (rev left t)))
       → (r j : ℕ) → r < n * 2 ^ left → j < w → value (get_or after (r * w + j) d)
       ≡ poly R (2 ^ (mid + left)) (λ q. value (get_or before (rev (mid + left) q * w + j) d)) (point R g (mid + left) s (rev (mid + left) r))
   rows_of_halves value d mid left w n before middle after within first second r j below inside =

@@ -24,7 +24,10 @@ module _ {A : Type 0} (R : Ring A) (g : ℕ → A) (s : A) where
 
   pub high_end : (l : ℕ) (c : ℕ → A) (r : ℕ) → high_row l 0 c r ≡ poly R (2 ^ l) c (point R g l s (rev l r))
   unfolding high_row
-  high_end l c r = let e : r / 2 ^ 0 ≡ r = omega arith in let d : r % 2 ^ 0 ≡ 0 = omega arith in ap₂ (λ x y. stage R g s l 0 c x (rev l y)) d e ∙ stage_end R g s l c (rev l r)
+  high_end l c r =
+      let e : r / 2 ^ 0 ≡ r = omega arith in
+      let d : r % 2 ^ 0 ≡ 0 = omega arith in
+      ap₂ (λ x y. stage R g s l 0 c x (rev l y)) d e ∙ stage_end R g s l c (rev l r)
 
   -- the first and the second half of a block, which are blocks of the next layer
   high_first : (l m : ℕ) (c : ℕ → A) (b j : ℕ) → j < 2 ^ m → high_row (suc l) m c (b * (2 * 2 ^ m) + j) ≡ stage R g s (suc l) m c j (rev l b)
@@ -45,7 +48,8 @@ module _ {A : Type 0} (R : Ring A) (g : ℕ → A) (s : A) where
 
   -- one twiddle for a block
   pub high_rows : {bits : ℕ} (G : AreRoots R bits g) (c : ℕ → A)
-      → Formula bits (λ l m. 2 ^ m) (λ l m b j. dit_near R (twiddle R g s l m (rev l b))) (λ l m b j. dit_far R (twiddle R g s l m (rev l b))) (λ l m. high_row l m c)
+      → Formula bits (λ l m. 2 ^ m) (λ l m b j. dit_near R (twiddle R g s l m (rev l b)))
+      (λ l m b j. dit_far R (twiddle R g s l m (rev l b))) (λ l m. high_row l m c)
   high_rows G c = record {
     near_row = λ l m b j y h.
         high_first l m c b j h ∙ stage_near R g s G l m c j (rev l b) (omega arith)

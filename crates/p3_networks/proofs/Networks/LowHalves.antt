@@ -52,7 +52,10 @@ module _ {F : Type 0} (field : FieldMembers F) (root : ℕ → field.Element) (k
       (λ far.
       let t = r - 2 ^ l in
       let row : r ≡ 1 * 2 ^ l + t = omega (arith, far) in
-      let place : r * w + j ≡ n + (t * w + j) = ap (λ u. u * w + j) row ∙ (let spread : (1 * 2 ^ l + t) * w + j ≡ 2 ^ l * w + (t * w + j) = omega arith in spread) ∙ ap (λ u. u + (t * w + j)) (sym size) in
+      let place : r * w + j ≡ n + (t * w + j) =
+      ap (λ u. u * w + j) row
+      ∙ (let spread : (1 * 2 ^ l + t) * w + j ≡ 2 ^ l * w + (t * w + j) = omega arith in spread)
+      ∙ ap (λ u. u + (t * w + j)) (sym size) in
       let small : t < 2 ^ l = omega (arith, far, below, double) in
       joined 1 t (omega arith) row small
       (ap (λ u. field.value (get_or (first ++ second) u field.zero)) place ∙ ap field.value (in_second first second n (t * w + j) field.zero len)
@@ -84,7 +87,9 @@ module _ {F : Type 0} (field : FieldMembers F) (root : ℕ → field.Element) (k
       joined b t half is place held =
           let whole : 1 + l ≡ k = omega (arith, some) in
           let left : 1 ≡ k - l = omega (arith, some) in
-          let one_power = ap (λ x. field.ring.mul x (power field.ring (root l) t)) (power_of_one field.ring (2 ^ 1)) ∙ Rings.one-mul field.ring (power field.ring (root l) t) in
+          let one_power =
+          ap (λ x. field.ring.mul x (power field.ring (root l) t)) (power_of_one field.ring (2 ^ 1))
+          ∙ Rings.one-mul field.ring (power field.ring (root l) t) in
           held ∙ ap (poly field.ring (2 ^ l) (λ q. cell before j (b * 2 ^ l + rev l q))) (sym one_power)
           ∙ sym (low_chunk field.ring root field.ring.one l 1 (cell before j) b t half place)
           ∙ ap (λ n. low_row field.ring root field.ring.one l 1 (λ q. cell before j (rev n q)) (b * 2 ^ l + t)) whole

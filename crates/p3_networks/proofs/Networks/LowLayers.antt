@@ -22,7 +22,9 @@ module _ {F : Type 0} (field : FieldMembers F) (root : ℕ → field.Element) (s
       sym (low_start field.ring root s (k - 0) (λ u. cell (rev k u * w + j)) r ∙ ap (λ u. cell (u * w + j)) (ap (λ n. rev k (rev n r)) e ∙ rev-rev k r below))
 
   -- layer l, from the cells x to y: it takes twiddle t at place t
-  pub low_layer : AreRoots field.ring k root → (l half blocks : ℕ) (at : ℕ → ℕ → F) (c : ℕ → field.Element) (x y : ℕ → field.Element) → l < k → half ≡ 2 ^ l → blocks * (2 * half) ≡ 2 ^ k
+  pub low_layer : AreRoots field.ring k root
+      → (l half blocks : ℕ) (at : ℕ → ℕ → F) (c : ℕ → field.Element) (x y : ℕ → field.Element) → l < k → half ≡ 2 ^ l
+      → blocks * (2 * half) ≡ 2 ^ k
       → AreLowTwiddles field root s k at
       → IsLayer blocks (half * w) (λ b i. dit_near field.ring (field.value (at l (i / w)))) (λ b i. dit_far field.ring (field.value (at l (i / w)))) x y
       → (j : ℕ) → j < w → ((r : ℕ) → r < 2 ^ k → x (r * w + j) ≡ low_row field.ring root s l (k - l) c r)
@@ -52,7 +54,9 @@ module _ {F : Type 0} (field : FieldMembers F) (root : ℕ → field.Element) (s
       }))
 
   -- after all layers
-  pub low_done : (l : ℕ) (c : ℕ → field.Element) (y : field.Element) (r : ℕ) → l ≡ k → y ≡ low_row field.ring root s l (k - l) c r → r < 2 ^ k → y ≡ poly field.ring (2 ^ k) c (point field.ring root k s r)
+  pub low_done : (l : ℕ) (c : ℕ → field.Element) (y : field.Element) (r : ℕ) → l ≡ k
+      → y ≡ low_row field.ring root s l (k - l) c r → r < 2 ^ k
+      → y ≡ poly field.ring (2 ^ k) c (point field.ring root k s r)
   low_done l c y r all is below =
       let d : k - l ≡ 0 = omega (arith, all) in
       is ∙ ap₂ (λ u v. low_row field.ring root s u v c r) all d ∙ low_end field.ring root s k c r below

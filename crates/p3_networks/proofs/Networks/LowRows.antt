@@ -19,7 +19,9 @@ held_low_at held l m b t h = ap₂ (λ x y. held (rev m x) y) (div-mul-add b (2 
 
 -- the rows of a block of the next layer
 pub held_next : {A : Type 0} (held : ℕ → ℕ → A) (l m b u : ℕ) → u < 2 * 2 ^ l → held_low held (suc l) m (b * (2 * 2 ^ l) + u) ≡ held (rev m b) u
-held_next held l m b u h = let e : 2 * 2 ^ l ≡ 2 ^ suc l = omega arith in ap (held_low held (suc l) m) (ap (λ x. b * x + u) e) ∙ held_low_at held (suc l) m b u (omega (arith, e, h))
+held_next held l m b u h =
+    let e : 2 * 2 ^ l ≡ 2 ^ suc l = omega arith in
+    ap (held_low held (suc l) m) (ap (λ x. b * x + u) e) ∙ held_low_at held (suc l) m b u (omega (arith, e, h))
 
 module _ {A : Type 0} (held : ℕ → ℕ → A) (l m : ℕ) where
   -- with one digit more for j: its first digit says in which half of a block of the next layer the row is

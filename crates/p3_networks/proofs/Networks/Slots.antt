@@ -82,7 +82,9 @@ rows_of_slots value d k a w front others entry size first other r j below inside
     r (omega (arith, below, all))
 
 -- values on the subgroup of rows times the powers of s are those of the rows on the coset of s
-pub values_of_shifted : {F : Type 0} (f : FieldMembers F) (generator : ℕ → F) (k w : ℕ) (s : f.Element) (height : ℕ) (rows shifted out : List F) → height ≡ 2 ^ k
+pub values_of_shifted : {F : Type 0} (f : FieldMembers F) (generator : ℕ → F) (k w : ℕ) (s : f.Element) (height : ℕ)
+    (rows shifted out : List F)
+    → height ≡ 2 ^ k
     → ((i j : ℕ) → i < height → j < w → f.value (get_or shifted (i * w + j) f.zero) ≡ f.ring.mul (f.value (get_or rows (i * w + j) f.zero)) (power f.ring s i))
     → AreValuesOfRows f w (2 ^ k) (λ q. q) (λ r. power f.ring (forward_root f generator k) (rev k r)) shifted out
     → (r j : ℕ) → r < 2 ^ k → j < w → f.value (get_or out (r * w + j) f.zero)
@@ -90,6 +92,7 @@ pub values_of_shifted : {F : Type 0} (f : FieldMembers F) (generator : ℕ → F
 values_of_shifted f generator k w s height rows shifted out high times values r j below inside =
     let x = power f.ring (forward_root f generator k) (rev k r) in
     values r j below inside
-    ∙ poly_same f.ring (2 ^ k) _ (λ q. f.ring.mul (f.value (get_or rows (q * w + j) f.zero)) (power f.ring s q)) x (λ q l. times q j (omega (arith, l, high)) inside)
+    ∙ poly_same f.ring (2 ^ k) _ (λ q. f.ring.mul (f.value (get_or rows (q * w + j) f.zero)) (power f.ring s q)) x
+    (λ q l. times q j (omega (arith, l, high)) inside)
     ∙ poly-scaled f.ring (2 ^ k) (λ q. f.value (get_or rows (q * w + j) f.zero)) s x
     ∙ ap (poly f.ring (2 ^ k) (λ q. f.value (get_or rows (q * w + j) f.zero))) (sym (point-mul f.ring (forward_root f generator) k s (rev k r)))

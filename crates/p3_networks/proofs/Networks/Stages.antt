@@ -41,7 +41,10 @@ module _ {A : Type 0} (R : Ring A) (g : ℕ → A) (s : A) where
 
   pub stage_end : (l : ℕ) (c : ℕ → A) (t : ℕ) → stage l 0 c 0 t ≡ poly R (2 ^ l) c (point R g l s t)
   unfolding stage
-  stage_end l c t = poly_same R (2 ^ l) _ c _ (λ q h. ap c (omega arith)) ∙ ap (λ x. poly R (2 ^ l) c (x ⊗ power R (g l) t)) (power-one R s) ∙ ap (poly R (2 ^ l) c) (sym (point-mul R g l s t))
+  stage_end l c t =
+      poly_same R (2 ^ l) _ c _ (λ q h. ap c (omega arith))
+      ∙ ap (λ x. poly R (2 ^ l) c (x ⊗ power R (g l) t)) (power-one R s)
+      ∙ ap (poly R (2 ^ l) c) (sym (point-mul R g l s t))
 
   -- where nothing stands from place 2 ^ m on, a stage is a coefficient
   pub stage_of_zeros : (l m : ℕ) (c : ℕ → A) (j t : ℕ) → ((q : ℕ) → 2 ^ m ≤ q → c q ≡ 𝟘) → stage l m c j t ≡ c j
@@ -53,7 +56,8 @@ module _ {A : Type 0} (R : Ring A) (g : ℕ → A) (s : A) where
       let all : 2 ^ l ≡ 1 + (2 ^ l - 1) = omega (arith, some) in
       let first : 0 * 2 ^ m + j ≡ j = omega arith in
       ap (λ n. poly R n f x) all
-      ∙ poly_padded R 1 (2 ^ l - 1) f x (λ q more below. zeros (q * 2 ^ m + j) (let past : 1 * 2 ^ m ≤ q * 2 ^ m = mul-le-mul_right (2 ^ m) more in omega (arith, past)))
+      ∙ poly_padded R 1 (2 ^ l - 1) f x (λ q more below. zeros (q * 2 ^ m + j)
+      (let past : 1 * 2 ^ m ≤ q * 2 ^ m = mul-le-mul_right (2 ^ m) more in omega (arith, past)))
       ∙ poly-one R f x ∙ ap c first
 
   -- the even and the odd places of a stage's polynomial are two polynomials of the stage before
@@ -79,7 +83,9 @@ module _ {A : Type 0} (R : Ring A) (g : ℕ → A) (s : A) where
   -- a butterfly: its near output, and then its far one, half the circle on
   pub stage_near : {bits : ℕ} (G : AreRoots R bits g) (l m : ℕ) (c : ℕ → A) (j t : ℕ) → l < bits →
       stage (suc l) m c j t ≡ dit_near R (twiddle l m t) (stage l (suc m) c j t) (stage l (suc m) c (2 ^ m + j) t)
-  stage_near G l m c j t y = opened l m c j t ∙ stage_split l m c j t (twiddle l m t) (twiddle_squared G l m t y) ∙ ap (λ x. stage l (suc m) c j t ⊕ x) (R.mul_comm _ _)
+  stage_near G l m c j t y =
+      opened l m c j t ∙ stage_split l m c j t (twiddle l m t) (twiddle_squared G l m t y)
+      ∙ ap (λ x. stage l (suc m) c j t ⊕ x) (R.mul_comm _ _)
     where
       opened : (l m : ℕ) (c : ℕ → A) (j t : ℕ) → stage (suc l) m c j t ≡ poly R (2 ^ suc l) (λ q. c (q * 2 ^ m + j)) (twiddle l m t)
       opened l m c j t = unfold stage twiddle in refl
@@ -95,7 +101,8 @@ module _ {A : Type 0} (R : Ring A) (g : ℕ → A) (s : A) where
   pub stage_far : {bits : ℕ} (G : AreRoots R bits g) (l m : ℕ) (c : ℕ → A) (j t : ℕ) → l < bits →
       stage (suc l) m c j (2 ^ l + t) ≡ dit_far R (twiddle l m t) (stage l (suc m) c j t) (stage l (suc m) c (2 ^ m + j) t)
   stage_far G l m c j t y = stage_near G l m c j (2 ^ l + t) y
-      ∙ ap₂ ◌⊕◌ (stage_round G l (suc m) c j t (omega arith)) (ap₂ ◌⊗◌ (stage_round G l (suc m) c (2 ^ m + j) t (omega arith)) (twiddle_far G l m t y) ∙ Rings.mul-neg R _ _)
+      ∙ ap₂ ◌⊕◌ (stage_round G l (suc m) c j t (omega arith)) (ap₂ ◌⊗◌ (stage_round G l (suc m) c (2 ^ m + j) t (omega arith)) (twiddle_far G l m t y)
+      ∙ Rings.mul-neg R _ _)
 
 -- on the subgroup itself a twiddle is a power of the next generator
 pub twiddle_of_one : {A : Type 0} (R : Ring A) (g : ℕ → A) (l m t : ℕ) → twiddle R g R.one l m t ≡ power R (g (suc l)) t

@@ -36,13 +36,18 @@ module _ {A : Type 0} (R : Ring A) (g : ℕ → A) (s : A) where
   unfolding twiddle
   twisted_factor G l m t y = power_of_product R _ _ (2 ^ m) ∙ ap (λ x. power R s (2 ^ m) ⊗ x) (sym (power-mul R _ t (2 ^ m)) ∙ root_strided R G (suc l) m t y)
 
-  twisted_joined : {bits : ℕ} (G : AreRoots R bits g) (l m : ℕ) (c : ℕ → A) (j t : ℕ) → suc l + m ≤ bits → twisted l (suc m) c (2 ^ m + j) t ≡ power R (s ⊗ power R (g (suc l + m)) t) j ⊗ (stage R g s l (suc m) c (2 ^ m + j) t ⊗ twiddle R g s l m t)
+  twisted_joined : {bits : ℕ} (G : AreRoots R bits g) (l m : ℕ) (c : ℕ → A) (j t : ℕ) → suc l + m ≤ bits
+      → twisted l (suc m) c (2 ^ m + j) t
+      ≡ power R (s ⊗ power R (g (suc l + m)) t) j ⊗ (stage R g s l (suc m) c (2 ^ m + j) t ⊗ twiddle R g s l m t)
   unfolding twisted
   twisted_joined G l m c j t y =
       let e : l + suc m ≡ suc l + m = omega arith in
       ap (λ k. power R (s ⊗ power R (g k) t) (2 ^ m + j) ⊗ stage R g s l (suc m) c (2 ^ m + j) t) e
-      ∙ ap (λ x. x ⊗ stage R g s l (suc m) c (2 ^ m + j) t) (power-add R _ (2 ^ m) j ∙ ap (λ x. x ⊗ power R (s ⊗ power R (g (suc l + m)) t) j) (twisted_factor G l m t y))
-      ∙ solve R (twiddle R g s l m t ∷ power R (s ⊗ power R (g (suc l + m)) t) j ∷ stage R g s l (suc m) c (2 ^ m + j) t ∷ []) ((va ⊠ vb) ⊠ vc) (vb ⊠ (vc ⊠ va)) refl
+      ∙ ap (λ x. x ⊗ stage R g s l (suc m) c (2 ^ m + j) t)
+      (power-add R _ (2 ^ m) j ∙ ap (λ x. x ⊗ power R (s ⊗ power R (g (suc l + m)) t) j) (twisted_factor G l m t y))
+      ∙ solve R
+      (twiddle R g s l m t ∷ power R (s ⊗ power R (g (suc l + m)) t) j ∷ stage R g s l (suc m) c (2 ^ m + j) t ∷ [])
+      ((va ⊠ vb) ⊠ vc) (vb ⊠ (vc ⊠ va)) refl
 
   twisted_plain : (l m : ℕ) (c : ℕ → A) (j t : ℕ) → twisted l (suc m) c j t ≡ power R (s ⊗ power R (g (suc l + m)) t) j ⊗ stage R g s l (suc m) c j t
   unfolding twisted
@@ -50,7 +55,10 @@ module _ {A : Type 0} (R : Ring A) (g : ℕ → A) (s : A) where
 
   pub twisted_near : {bits : ℕ} (G : AreRoots R bits g) (l m : ℕ) (c : ℕ → A) (j t : ℕ) → suc l + m ≤ bits →
       twisted (suc l) m c j t ≡ dif_near R (power R (g (suc m)) j) (twisted l (suc m) c j t) (twisted l (suc m) c (2 ^ m + j) t)
-  twisted_near G l m c j t y = opened l m c j t ∙ ap (λ x. power R (s ⊗ power R (g (suc l + m)) t) j ⊗ x) (stage_near R g s G l m c j t (omega arith)) ∙ R.mul_add _ _ _
+  twisted_near G l m c j t y =
+      opened l m c j t
+      ∙ ap (λ x. power R (s ⊗ power R (g (suc l + m)) t) j ⊗ x) (stage_near R g s G l m c j t (omega arith))
+      ∙ R.mul_add _ _ _
       ∙ sym (ap₂ ◌⊕◌ (twisted_plain l m c j t) (twisted_joined G l m c j t y))
     where
       opened : (l m : ℕ) (c : ℕ → A) (j t : ℕ) → twisted (suc l) m c j t ≡ power R (s ⊗ power R (g (suc l + m)) t) j ⊗ stage R g s (suc l) m c j t
@@ -76,7 +84,9 @@ module _ {A : Type 0} (R : Ring A) (g : ℕ → A) (s : A) where
 
   pub twisted_row_start : (m : ℕ) (c : ℕ → A) (r : ℕ) → twisted_row 0 m c r ≡ power R s (rev m r) ⊗ c (rev m r)
   unfolding twisted_row
-  twisted_row_start m c r = let e : r / 2 ^ 0 ≡ r = omega arith in let d : r % 2 ^ 0 ≡ 0 = omega arith in ap₂ (λ x y. twisted 0 m c (rev m x) y) e d ∙ twisted_start m c (rev m r)
+  twisted_row_start m c r =
+      let e : r / 2 ^ 0 ≡ r = omega arith in
+      let d : r % 2 ^ 0 ≡ 0 = omega arith in ap₂ (λ x y. twisted 0 m c (rev m x) y) e d ∙ twisted_start m c (rev m r)
 
   pub twisted_row_end : (l : ℕ) (c : ℕ → A) (r : ℕ) → r < 2 ^ l
       → twisted_row l 0 c r ≡ poly R (2 ^ l) c (point R g l s r)
@@ -92,7 +102,8 @@ module _ {A : Type 0} (R : Ring A) (g : ℕ → A) (s : A) where
 
   -- one twiddle for a block
   pub twisted_rows : {bits : ℕ} (G : AreRoots R bits g) (c : ℕ → A)
-      → Formula bits (λ l m. 2 ^ l) (λ l m b t. dif_near R (power R (g (suc m)) (rev m b))) (λ l m b t. dif_far R (power R (g (suc m)) (rev m b))) (λ l m. twisted_row l m c)
+      → Formula bits (λ l m. 2 ^ l) (λ l m b t. dif_near R (power R (g (suc m)) (rev m b)))
+      (λ l m b t. dif_far R (power R (g (suc m)) (rev m b))) (λ l m. twisted_row l m c)
   unfolding twisted_row
   twisted_rows G c = record {
     near_row = λ l m b t y h.

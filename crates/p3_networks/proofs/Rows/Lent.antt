@@ -1,5 +1,7 @@
 -- Blocks of rows that are lent to a consumer while other rows are still written.
-use Rattle.std.proofs.Common.{◌≡◌, ℕ, zero, suc, ◌+◌, ◌*◌, ◌-◌, ◌/◌, ◌%◌, ◌<◌, ◌≤◌, List, [], ◌∷◌, ◌++◌, length, get_or, map, take, drop, Result, Ok, refl, sym, ap, ap₂, ◌∙◌, subst, arith, rules, add-one, length-append, ⊎_elim}
+use Rattle.std.proofs.Common.{◌≡◌, ℕ, zero, suc, ◌+◌, ◌*◌, ◌-◌, ◌/◌, ◌%◌, ◌<◌, ◌≤◌, List, [], ◌∷◌, ◌++◌, length, get_or}
+use Rattle.std.proofs.Common.{map, take, drop, Result, Ok, refl, sym, ap, ap₂, ◌∙◌, subst, arith, rules, add-one}
+use Rattle.std.proofs.Common.{length-append, ⊎_elim}
 use Rattle.std.specs.Prelude.{⊤}
 use Rattle.std.specs.List.{range_with_len, between}
 use Rattle.std.proofs.Math.Nat.{mul-div_cancel, mul-le-mul_right, mul-mod_left}
@@ -22,7 +24,8 @@ use Rattle.p3_networks.specs.Slots.{slot_block, slot_blocks}
 pub map_joined : {X : Type 0} (f : ℕ → X) (m n : ℕ) → map f (range_with_len 0 m) ++ map (λ q. f (m + q)) (range_with_len 0 n) ≡ map f (range_with_len 0 (m + n))
 map_joined f m zero = append-nil (map f (range_with_len 0 m)) ∙ ap (λ k. map f (range_with_len 0 k)) (let e : m ≡ m + 0 = omega arith in e)
 map_joined f m (suc n) =
-    ap (λ xs. map f (range_with_len 0 m) ++ xs) (ap (λ k. map (λ q. f (m + q)) (range_with_len 0 k)) (sym (add-one n)) ∙ map-range_with_len_more (λ q. f (m + q)) 0 n n (omega arith))
+    ap (λ xs. map f (range_with_len 0 m) ++ xs) (ap (λ k. map (λ q. f (m + q)) (range_with_len 0 k)) (sym (add-one n))
+    ∙ map-range_with_len_more (λ q. f (m + q)) 0 n n (omega arith))
     ∙ sym (append_assoc (map f (range_with_len 0 m)) (map (λ q. f (m + q)) (range_with_len 0 n)) (f (m + n) ∷ []))
     ∙ ap (λ xs. xs ++ f (m + n) ∷ []) (map_joined f m n)
     ∙ sym (map-range_with_len_more f 0 (m + n) (m + n) (omega arith))
@@ -35,17 +38,23 @@ module _ {T : Type 0} (first b w : ℕ) where
       let u = q * b * w in
       let v = q * b * w + b * w in
       let le : v ≤ end = let spread : (q + 1) * (b * w) ≡ q * b * w + b * w = omega arith in omega (arith, within, spread) in
-      let part : between u v xs ≡ between u v ys = between_is xs u v ∙ ap (drop u) (sym (take-take v end xs le) ∙ ap (take v) same ∙ take-take v end ys le) ∙ sym (between_is ys u v) in
+      let part : between u v xs ≡ between u v ys =
+      between_is xs u v ∙ ap (drop u) (sym (take-take v end xs le) ∙ ap (take v) same ∙ take-take v end ys le)
+      ∙ sym (between_is ys u v) in
       ap (λ (zs : List T). (first + q * b, let m : RowMajor T = record { width = w; values = zs } in m)) part
 
   pub blocks_kept : (xs ys : List T) (n end : ℕ) → n * (b * w) ≤ end → take end xs ≡ take end ys → slot_blocks first b w xs n ≡ slot_blocks first b w ys n
   blocks_kept xs ys n end within same =
       list_same (slot_block first b w xs) (slot_block first b w ys) n
-      (λ q below. let l : suc q * (b * w) ≤ n * (b * w) = mul-le-mul_right (b * w) below in let next : suc q * (b * w) ≡ (q + 1) * (b * w) = omega arith in block_kept xs ys q end (omega (arith, l, next, within)) same)
+      (λ q below.
+      let l : suc q * (b * w) ≤ n * (b * w) = mul-le-mul_right (b * w) below in
+      let next : suc q * (b * w) ≡ (q + 1) * (b * w) = omega arith in
+      block_kept xs ys q end (omega (arith, l, next, within)) same)
 
 module _ {C T R : Type 0} (step : C → ℕ → RowMajor T → Result ⊤ R → C → Type 0) where
   -- one more block that was accepted
-  pub run_more : (f : ℕ → ℕ × RowMajor T) (n : ℕ) (c d e : C) → Run step c (map f (range_with_len 0 n)) d → step d (f n).0 (f n).1 (Ok tt) e → Run step c (map f (range_with_len 0 (n + 1))) e
+  pub run_more : (f : ℕ → ℕ × RowMajor T) (n : ℕ) (c d e : C) → Run step c (map f (range_with_len 0 n)) d
+      → step d (f n).0 (f n).1 (Ok tt) e → Run step c (map f (range_with_len 0 (n + 1))) e
   run_more f n c d e run accepted = rw (map-range_with_len_more f 0 n n (omega arith)) (FoldsTo-push _ c (map f (range_with_len 0 n)) d (f n) e run accepted)
 
   -- more blocks that were accepted
@@ -53,7 +62,8 @@ module _ {C T R : Type 0} (step : C → ℕ → RowMajor T → Result ⊤ R → 
   run_joined [] ys c d e same run = subst (λ x. Run step x ys e) (sym same) run
   run_joined (x ∷ xs) ys c d e (j, one, more) run = (j, one, run_joined xs ys j d e more run)
 
-  pub refusal_joined : (xs ys : List (ℕ × RowMajor T)) (refused : ℕ × RowMajor T) (refusal : R) (c d e : C) → Run step c xs d → RunToRefusal step d ys refused refusal e → RunToRefusal step c (xs ++ ys) refused refusal e
+  pub refusal_joined : (xs ys : List (ℕ × RowMajor T)) (refused : ℕ × RowMajor T) (refusal : R) (c d e : C)
+      → Run step c xs d → RunToRefusal step d ys refused refusal e → RunToRefusal step c (xs ++ ys) refused refusal e
   refusal_joined xs ys refused refusal c d e run stopped = record {
     middle = stopped.middle;
     run = run_joined xs ys c d stopped.middle run stopped.run;
@@ -68,7 +78,8 @@ part_of_part xs start len u v within =
     ∙ ap (take (v - u)) (drop-drop u start xs) ∙ ap (λ n. take n (drop (start + u) xs)) (sym gap)
 
 -- the blocks of a part are blocks of the whole: n blocks stand before it
-pub block_of_part : {T : Type 0} (first b w n q start len : ℕ) (whole part : List T) → start ≡ n * (b * w) → (q + 1) * (b * w) ≤ len → part ≡ take len (drop start whole)
+pub block_of_part : {T : Type 0} (first b w n q start len : ℕ) (whole part : List T) → start ≡ n * (b * w)
+    → (q + 1) * (b * w) ≤ len → part ≡ take len (drop start whole)
     → slot_block (first + n * b) b w part q ≡ slot_block first b w whole (n + q)
 block_of_part {T} first b w n q start len whole part start_is within is =
     let u = q * b * w in
@@ -81,7 +92,8 @@ block_of_part {T} first b w n q start len whole part start_is within is =
     (ap (between u v) is ∙ part_of_part whole start len u v le ∙ ap₂ (λ x y. between x y whole) low high)
 
 -- so m blocks of a part, behind n blocks, make n + m blocks
-pub blocks_of_part : {T : Type 0} (first next b w n m start len : ℕ) (whole part : List T) → next ≡ first + n * b → start ≡ n * (b * w) → m * (b * w) ≤ len → part ≡ take len (drop start whole)
+pub blocks_of_part : {T : Type 0} (first next b w n m start len : ℕ) (whole part : List T) → next ≡ first + n * b
+    → start ≡ n * (b * w) → m * (b * w) ≤ len → part ≡ take len (drop start whole)
     → slot_blocks first b w whole n ++ slot_blocks next b w part m ≡ slot_blocks first b w whole (n + m)
 blocks_of_part first next b w n m start len whole part next_is start_is within is =
     ap (λ xs. slot_blocks first b w whole n ++ xs)
@@ -92,10 +104,13 @@ blocks_of_part first next b w n m start len whole part next_is start_is within i
     ∙ map_joined (slot_block first b w whole) n m
 
 -- the part that was written
-pub written_part : {T : Type 0} (now part : List T) (start whole : ℕ) → start + whole ≤ length now → length part ≡ whole → part ≡ take whole (drop start (put_mid start (start + whole - start) now part))
+pub written_part : {T : Type 0} (now part : List T) (start whole : ℕ) → start + whole ≤ length now → length part ≡ whole
+    → part ≡ take whole (drop start (put_mid start (start + whole - start) now part))
 written_part now part start whole room len =
     let gap : start + whole - start ≡ whole = omega arith in
-    sym (between-put_mid start (start + whole - start) now part (start + whole) (omega (arith, room)) (omega (arith, len, gap))) ∙ ap (λ n. take n (drop start (put_mid start (start + whole - start) now part))) gap
+    sym (between-put_mid start (start + whole - start) now part (start + whole) (omega (arith, room))
+    (omega (arith, len, gap)))
+    ∙ ap (λ n. take n (drop start (put_mid start (start + whole - start) now part))) gap
 
 module _ {A T : Type 0} (value : T → A) (d : T) (b w : ℕ) (some : 1 ≤ b) (wide : 1 ≤ w) (out : Matrix A) (same_width : out.width ≡ w) where
   -- a block whose rows have the values of those of a matrix
@@ -140,23 +155,31 @@ module _ {A T : Type 0} (value : T → A) (d : T) (b w : ℕ) (some : 1 ≤ b) (
             let ends : (q + 1) * b ≤ n * b = mul-le-mul_right b (let le : q + 1 ≤ n = omega (arith, l) in le) in
             let next : (q + 1) * b ≡ q * b + b = omega arith in
             subst (IsBlockOf (λ r. image value (matrix d r)) b out) (sym (get_or-map-range_with_len (slot_block first b w rows) 0 n q q e l (omega arith)))
-            (is_block first f rows q first_is (omega (arith, cells, fits)) (omega (arith, ends, room)) (λ i j p l. alike (q * b + i) j (omega (arith, p, ends, next)) l));
+            (is_block first f rows q first_is (omega (arith, cells, fits)) (omega (arith, ends, room))
+            (λ i j p l. alike (q * b + i) j (omega (arith, p, ends, next)) l));
         distinct = λ i j e before inside.
             let l : j < n = omega (arith, inside, size) in
-            rw (get_or-map-range_with_len (slot_block first b w rows) 0 n i i e (omega (arith, l, before)) (omega arith), get_or-map-range_with_len (slot_block first b w rows) 0 n j j e l (omega arith))
+            rw (
+              get_or-map-range_with_len (slot_block first b w rows) 0 n i i e (omega (arith, l, before))
+                  (omega arith),
+              get_or-map-range_with_len (slot_block first b w rows) 0 n j j e l (omega arith),
+            )
             (λ same. starts_differ i j b some before (omega (arith, same)));
       }
 
   -- blocks that begin at other rows than those before them
-  pub blocks_joined : (xs ys : List (ℕ × RowMajor T)) → ((i j : ℕ) (e : ℕ × RowMajor T) → i < length xs → j < length ys → (get_or xs i e).0 ≡ (get_or ys j e).0 → ⊥)
-      → AreBlocksOf (λ r. image value (matrix d r)) b out xs → AreBlocksOf (λ r. image value (matrix d r)) b out ys → AreBlocksOf (λ r. image value (matrix d r)) b out (xs ++ ys)
+  pub blocks_joined : (xs ys : List (ℕ × RowMajor T))
+      → ((i j : ℕ) (e : ℕ × RowMajor T) → i < length xs → j < length ys → (get_or xs i e).0 ≡ (get_or ys j e).0 → ⊥)
+      → AreBlocksOf (λ r. image value (matrix d r)) b out xs → AreBlocksOf (λ r. image value (matrix d r)) b out ys →
+      AreBlocksOf (λ r. image value (matrix d r)) b out (xs ++ ys)
   blocks_joined xs ys apart first second = record {
     each = All-append (IsBlockOf (λ r. image value (matrix d r)) b out) xs ys first.each second.each;
     distinct = λ i j e before inside same.
         let size = length-append xs ys in
         ⊎_elim
         (λ less.
-        first.distinct i j e before less (sym (ap (λ p. p.0) (get_or_append_left xs ys e i (omega (arith, less, before)))) ∙ same ∙ ap (λ p. p.0) (get_or_append_left xs ys e j less)))
+        first.distinct i j e before less (sym (ap (λ p. p.0) (get_or_append_left xs ys e i
+        (omega (arith, less, before)))) ∙ same ∙ ap (λ p. p.0) (get_or_append_left xs ys e j less)))
         (λ more.
         let right : j - length xs < length ys = omega (arith, inside, size, more) in
         let at_j : (get_or (xs ++ ys) j e).0 ≡ (get_or ys (j - length xs) e).0 = ap (λ p. p.0) (get_or-append_right xs ys (length xs) j e refl more) in

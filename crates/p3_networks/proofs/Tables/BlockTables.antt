@@ -18,7 +18,8 @@ blocks_within b mid done below =
 
 -- in chunk b, with `done` of its layers done, block u has the twiddle of a network of its own
 pub chunk_entry : {F : Type 0} (f : FieldMembers F) (root : ℕ → f.Element) (s : f.Element) (mid left b done u l n : ℕ) (at : ℕ → ℕ → F)
-    → AreRoots f.ring (mid + left) root → AreHighTwiddles f root s mid (mid + left) at → l ≡ mid + done → n ≡ b * 2 ^ done + u → b < 2 ^ mid → done < left → u < 2 ^ done
+    → AreRoots f.ring (mid + left) root → AreHighTwiddles f root s mid (mid + left) at → l ≡ mid + done → n
+    ≡ b * 2 ^ done + u → b < 2 ^ mid → done < left → u < 2 ^ done
     → f.value (at l n) ≡ twiddle f.ring root (point f.ring root (mid + left) s (rev mid b)) done (left - 1 - done) (rev done u)
 chunk_entry f root s mid left b done u l n at roots table layer number below some inside =
     ap₂ (λ l n. f.value (at l n)) layer number

@@ -1,5 +1,6 @@
 -- The table of a coset, as the halves of a network take it, and that tables stay.
-use Rattle.std.proofs.Common.{◌≡◌, ℕ, ◌+◌, ◌-◌, ◌<◌, ◌≤◌, ◌^◌, ◌⊎◌, inl, inr, List, [], ◌∷◌, ◌++◌, length, get_or, refl, sym, ap, ◌∙◌, subst, arith, length-append, ⊎_elim}
+use Rattle.std.proofs.Common.{◌≡◌, ℕ, ◌+◌, ◌-◌, ◌<◌, ◌≤◌, ◌^◌, ◌⊎◌, inl, inr, List, [], ◌∷◌, ◌++◌, length, get_or, refl}
+use Rattle.std.proofs.Common.{sym, ap, ◌∙◌, subst, arith, length-append, ⊎_elim}
 use Rattle.std.proofs.lemmas.Bool.{cases_lt, le-leb, lt-leb}
 use Rattle.std.proofs.lemmas.List.{get_or_append_left, get_or-append_right}
 use Rattle.std.proofs.lemmas.Nat.{pow-add}
@@ -20,13 +21,17 @@ module _ {F : Type 0} (f : FieldMembers F) (generator : ℕ → F) (s : f.Elemen
       let natural = lt-leb (mid_of log) l (omega (arith, below, half)) in
       let split : log - 1 - l ≡ left + (mid - 1 - l) = omega (arith, whole, below) in
       table.entries l t (omega (arith, whole, below)) p ∙ ap (λ r. coset_twiddles f root s log l (layer_place r l t)) natural
-      ∙ ap (λ x. f.ring.mul x (power f.ring (root (l + 1)) t)) (ap (λ n. power f.ring s (2 ^ n)) split ∙ ap (power f.ring s) (pow-add 2 left (mid - 1 - l)) ∙ power-mul f.ring s (2 ^ left) (2 ^ (mid - 1 - l)))
+      ∙ ap (λ x. f.ring.mul x (power f.ring (root (l + 1)) t)) (ap (λ n. power f.ring s (2 ^ n)) split
+      ∙ ap (power f.ring s) (pow-add 2 left (mid - 1 - l)) ∙ power-mul f.ring s (2 ^ left) (2 ^ (mid - 1 - l)))
 
-  pub high_of_coset : (mid k : ℕ) → mid ≡ mid_of log → log ≡ k → IsCosetTable f generator s log xs → AreHighTwiddles f (forward_root f generator) s mid k (by_layer f.zero xs)
+  pub high_of_coset : (mid k : ℕ) → mid ≡ mid_of log → log ≡ k → IsCosetTable f generator s log xs
+      → AreHighTwiddles f (forward_root f generator) s mid k (by_layer f.zero xs)
   high_of_coset mid k half same table =
       let root = forward_root f generator in
       subst (λ (n : ℕ). AreHighTwiddles f root s mid n (by_layer f.zero xs)) same
-      (λ l b from below p. table.entries l b below p ∙ ap (λ r. coset_twiddles f root s log l (layer_place r l b)) (le-leb (mid_of log) l (omega (arith, from, half))))
+      (λ l b from below p. table.entries l b below p
+      ∙ ap (λ r. coset_twiddles f root s log l (layer_place r l b))
+      (le-leb (mid_of log) l (omega (arith, from, half))))
 
 -- a coset keeps its table where one is added at the end
 pub coset_kept : {F : Type 0} (f : FieldMembers F) (before after : List (Coset F)) (added : Coset F) (k : ℕ) (s : f.Element)
@@ -43,10 +48,12 @@ coset_kept f before after added k s (inr longer) has =
     )
 
 -- the table that was read from a place, and the place that it was read from
-pub coset_read : {F : Type 0} (f : FieldMembers F) (all : List (Coset F)) (k i : ℕ) (s : f.Element) (t : Coset F) → ((d : Coset F) → t ≡ get_or all i d) → IsCosetAt f all k s i → IsCosetOf f k s t
+pub coset_read : {F : Type 0} (f : FieldMembers F) (all : List (Coset F)) (k i : ℕ) (s : f.Element) (t : Coset F)
+    → ((d : Coset F) → t ≡ get_or all i d) → IsCosetAt f all k s i → IsCosetOf f k s t
 coset_read f all k i s t read at = subst (IsCosetOf f k s) (sym (read t)) (at.1 t)
 
-pub coset_found : {F : Type 0} (f : FieldMembers F) (all : List (Coset F)) (k i : ℕ) (s : f.Element) (t : Coset F) → i < length all → ((d : Coset F) → t ≡ get_or all i d) → IsCosetOf f k s t → IsCosetAt f all k s i
+pub coset_found : {F : Type 0} (f : FieldMembers F) (all : List (Coset F)) (k i : ℕ) (s : f.Element) (t : Coset F)
+    → i < length all → ((d : Coset F) → t ≡ get_or all i d) → IsCosetOf f k s t → IsCosetAt f all k s i
 coset_found f all k i s t inside read is = (inside, λ d. subst (IsCosetOf f k s) (read d) is)
 
 module _ {F : Type 0} (f : FieldMembers F) (before : List (Coset F)) (added : Coset F) where

@@ -19,10 +19,12 @@ module _ {A : Type 0} (R : Ring A) (g : ℕ → A) where
   infixl 60 ◌⊕◌
   infixl 70 ◌⊗◌
   -- where two points of a coset are one, its shift is zero
-  point_twice : {bits : ℕ} → AreRoots R bits g → (n : ℕ) (s : A) (i j : ℕ) → n ≤ bits → i < 2 ^ n → j < 2 ^ n → i ≢ j → point R g n s j ≡ point R g n s i → s ≡ 𝟘
+  point_twice : {bits : ℕ} → AreRoots R bits g → (n : ℕ) (s : A) (i j : ℕ) → n ≤ bits → i < 2 ^ n → j < 2 ^ n → i ≢ j
+      → point R g n s j ≡ point R g n s i → s ≡ 𝟘
   point_twice G n s i j b first second different same =
       let (v, undo) = points_apart R G n 𝟙 i j b (𝟙, R.mul_one 𝟙) first second different in
-      sym (R.mul_one s) ∙ ap (λ z. s ⊗ z) (sym undo) ∙ sym (R.mul_assoc s (point R g n 𝟙 j ⊕ neg (point R g n 𝟙 i)) v) ∙ ap (λ z. z ⊗ v) none ∙ Rings.zero-mul R v
+      sym (R.mul_one s) ∙ ap (λ z. s ⊗ z) (sym undo) ∙ sym (R.mul_assoc s (point R g n 𝟙 j ⊕ neg (point R g n 𝟙 i)) v)
+      ∙ ap (λ z. z ⊗ v) none ∙ Rings.zero-mul R v
     where
       scaled : (c : ℕ) → s ⊗ point R g n 𝟙 c ≡ point R g n s c
       scaled c = ap (λ z. s ⊗ z) (point_of_one R g n c) ∙ sym (point-mul R g n s c)
@@ -48,7 +50,8 @@ module _ {A : Type 0} (R : Ring A) (g : ℕ → A) where
           omega (arith, back, before)
 
   -- and each coset is that of one of them
-  pub slot_of_coset : (k a : ℕ) (s : A) (slots c : ℕ) → AreSlotsApart R s a slots → c < 2 ^ a → (m : ℕ) × (m < slots) × (point R g (k + a) s (rev a m) ≡ point R g (k + a) s c)
+  pub slot_of_coset : (k a : ℕ) (s : A) (slots c : ℕ) → AreSlotsApart R s a slots → c < 2 ^ a
+      → (m : ℕ) × (m < slots) × (point R g (k + a) s (rev a m) ≡ point R g (k + a) s c)
   slot_of_coset k a s slots c (inl (is, one)) below = (0, omega (arith, one), zero_point (rev a 0) ∙ sym (zero_point c))
     where
       zero_point : (i : ℕ) → point R g (k + a) s i ≡ 𝟘

@@ -15,13 +15,15 @@ use Rattle.p3_networks.specs.Twiddles.{AreTwiddles, AreTwiddlesFromStart, block_
 
 module _ {F : Type 0} (f : FieldMembers F) (root : ℕ → f.Element) where
   -- a power of a root is one of the root of a layer
-  layer_power : {bits : ℕ} → AreRoots f.ring bits root → (l m b : ℕ) → suc l + m ≤ bits → b < 2 ^ l → power f.ring (root (suc l + m)) (rev (l + m) b) ≡ power f.ring (root (suc l)) (rev l b)
+  layer_power : {bits : ℕ} → AreRoots f.ring bits root → (l m b : ℕ) → suc l + m ≤ bits → b < 2 ^ l
+      → power f.ring (root (suc l + m)) (rev (l + m) b) ≡ power f.ring (root (suc l)) (rev l b)
   layer_power G l m b within inside =
       let first : b ≡ 0 * 2 ^ l + b = omega arith in
       let digits : rev l b * 2 ^ m + rev m 0 ≡ rev l b * 2 ^ m = ap (λ x. rev l b * 2 ^ m + x) (rev_of_zero m) ∙ omega arith in
       ap (power f.ring (root (suc l + m))) (ap (rev (l + m)) first ∙ rev-block l m 0 b inside ∙ digits) ∙ root_strided f.ring G (suc l) m (rev l b) within
 
-  pub first_entries : {bits : ℕ} → AreRoots f.ring bits root → (log : ℕ) (table : List F) → log ≤ bits → AreTwiddles f (2 ^ (log - 1)) (block_powers f root (log - 1)) table
+  pub first_entries : {bits : ℕ} → AreRoots f.ring bits root → (log : ℕ) (table : List F) → log ≤ bits
+      → AreTwiddles f (2 ^ (log - 1)) (block_powers f root (log - 1)) table
       → AreTwiddlesFromStart f log (block_powers f root) table
   first_entries G log table within are = record {
     size = λ l below. let rise : 2 ^ l ≤ 2 ^ (log - 1) = fewer l below in omega (arith, are.size, rise);
@@ -39,11 +41,13 @@ module _ {F : Type 0} (f : FieldMembers F) (root : ℕ → f.Element) where
       fewer l below = let less : l ≤ log - 1 = omega (arith, below) in pow-le-pow_right {n = 2} (lit≤ tt) less
 
   -- the same of powers of the root of the whole
-  pub from_powers : {bits : ℕ} → AreRoots f.ring bits root → (log : ℕ) (table : List F) → 1 ≤ log → log ≤ bits → AreTwiddles f (2 ^ (log - 1)) (λ b. power f.ring (root log) (rev (log - 1) b)) table
+  pub from_powers : {bits : ℕ} → AreRoots f.ring bits root → (log : ℕ) (table : List F) → 1 ≤ log → log ≤ bits
+      → AreTwiddles f (2 ^ (log - 1)) (λ b. power f.ring (root log) (rev (log - 1) b)) table
       → AreTwiddlesFromStart f log (block_powers f root) table
   from_powers G log table some within are =
       first_entries G log table within
-      (subst (λ (n : ℕ). AreTwiddles f (2 ^ (log - 1)) (λ b. power f.ring (root n) (rev (log - 1) b)) table) (let whole : log ≡ log - 1 + 1 = omega (arith, some) in whole) are)
+      (subst (λ (n : ℕ). AreTwiddles f (2 ^ (log - 1)) (λ b. power f.ring (root n) (rev (log - 1) b)) table)
+      (let whole : log ≡ log - 1 + 1 = omega (arith, some) in whole) are)
 
   -- powers that were made from a first one that is one
   pub powers_from_one : (n : ℕ) (one x : f.Element) (table : List F) → one ≡ f.ring.one → x ≡ root (n + 1)
@@ -51,11 +55,13 @@ module _ {F : Type 0} (f : FieldMembers F) (root : ℕ → f.Element) where
   powers_from_one n one x table is_one is_root are = record {
     size = are.size;
     entries = λ b below.
-        are.entries b below ∙ ap₂ (λ y z. f.ring.mul y (power f.ring z (rev n b))) is_one is_root ∙ Rings.one-mul f.ring (power f.ring (root (n + 1)) (rev n b));
+        are.entries b below ∙ ap₂ (λ y z. f.ring.mul y (power f.ring z (rev n b))) is_one is_root
+        ∙ Rings.one-mul f.ring (power f.ring (root (n + 1)) (rev n b));
   }
 
   -- the first is one, and there is one for each block of the largest layer
-  pub first_is_one : (log : ℕ) (table : List F) → 1 ≤ log → AreTwiddlesFromStart f log (block_powers f root) table → f.value (get_or table 0 f.zero) ≡ f.ring.one
+  pub first_is_one : (log : ℕ) (table : List F) → 1 ≤ log → AreTwiddlesFromStart f log (block_powers f root) table
+      → f.value (get_or table 0 f.zero) ≡ f.ring.one
   first_is_one log table some are = are.entries 0 0 some (pow_pos 0) ∙ ap (power f.ring (root 1)) (rev_of_zero 0) ∙ power-zero f.ring (root 1)
 
   pub enough_from_start : (log : ℕ) (table : List F) → 1 ≤ log → AreTwiddlesFromStart f log (block_powers f root) table → 2 ^ log ≤ 2 * length table
@@ -65,13 +71,17 @@ module _ {F : Type 0} (f : FieldMembers F) (root : ℕ → f.Element) where
       omega (arith, size, d)
 
   -- for blocks they are the twiddles of the subgroup
-  pub block_table : (mid k log : ℕ) (table : List F) → k ≤ log → AreTwiddlesFromStart f log (block_powers f root) table → AreHighTwiddles f root f.ring.one mid k (from_start f.zero table)
+  pub block_table : (mid k log : ℕ) (table : List F) → k ≤ log → AreTwiddlesFromStart f log (block_powers f root) table
+      → AreHighTwiddles f root f.ring.one mid k (from_start f.zero table)
   block_table mid k log table less are l b from below inside =
       let power_is = block_powers f root l b in
-      are.entries l b (omega (arith, less, below)) inside ∙ sym (ap (λ x. f.ring.mul x power_is) (power_of_one f.ring (2 ^ (k - 1 - l))) ∙ Rings.one-mul f.ring power_is)
+      are.entries l b (omega (arith, less, below)) inside
+      ∙ sym
+      (ap (λ x. f.ring.mul x power_is) (power_of_one f.ring (2 ^ (k - 1 - l))) ∙ Rings.one-mul f.ring power_is)
 
   -- the power for row q of 2 ^ (log - a) that are spread by 2 ^ a
-  pub spread_root : (log a : ℕ) (table : List F) → a ≤ log → 1 ≤ log → AreTwiddlesFromStart f log (block_powers f root) table → (q t : ℕ) → q < 2 ^ (log - a) → t < 2 ^ a
+  pub spread_root : (log a : ℕ) (table : List F) → a ≤ log → 1 ≤ log
+      → AreTwiddlesFromStart f log (block_powers f root) table → (q t : ℕ) → q < 2 ^ (log - a) → t < 2 ^ a
       → power f.ring (f.value (get_or table (q * (2 ^ a / 2)) f.zero)) t ≡ power f.ring (power f.ring (root log) (rev (log - a) q)) t
   spread_root log zero table within some are q t inside below =
       let none : t ≡ 0 = omega arith in
@@ -94,5 +104,9 @@ module _ {F : Type 0} (f : FieldMembers F) (root : ℕ → f.Element) where
       ∙ ap₂ (λ n e. power f.ring (root n) e) whole place)
 
 -- what serves a height serves a smaller one
-pub fewer_from_start : {F : Type 0} (f : FieldMembers F) (p : ℕ → ℕ → f.Element) (log most : ℕ) (table : List F) → log ≤ most → AreTwiddlesFromStart f most p table → AreTwiddlesFromStart f log p table
-fewer_from_start f p log most table fewer are = record { size = λ l below. are.size l (omega (arith, below, fewer)); entries = λ l b below inside. are.entries l b (omega (arith, below, fewer)) inside }
+pub fewer_from_start : {F : Type 0} (f : FieldMembers F) (p : ℕ → ℕ → f.Element) (log most : ℕ) (table : List F)
+    → log ≤ most → AreTwiddlesFromStart f most p table → AreTwiddlesFromStart f log p table
+fewer_from_start f p log most table fewer are = record {
+  size = λ l below. are.size l (omega (arith, below, fewer));
+  entries = λ l b below inside. are.entries l b (omega (arith, below, fewer)) inside;
+}

@@ -18,7 +18,9 @@ rev_flipped (suc l) t below = go (rev_flipped l) (even_or_odd t)
     twice : 2 ^ suc l ≡ 2 * 2 ^ l
     twice = omega arith
 
-    go : ((j : ℕ) → j < 2 ^ l → rev l j + rev l (2 ^ l - 1 - j) ≡ 2 ^ l - 1) → ((j : ℕ) × t ≡ 2 * j) ⊎ ((j : ℕ) × t ≡ 2 * j + 1) → rev (suc l) t + rev (suc l) (2 ^ suc l - 1 - t) ≡ 2 ^ suc l - 1
+    go : ((j : ℕ) → j < 2 ^ l → rev l j + rev l (2 ^ l - 1 - j) ≡ 2 ^ l - 1)
+        → ((j : ℕ) × t ≡ 2 * j) ⊎ ((j : ℕ) × t ≡ 2 * j + 1)
+        → rev (suc l) t + rev (suc l) (2 ^ suc l - 1 - t) ≡ 2 ^ suc l - 1
     go ih (inl (j, e)) =
         let less : j < 2 ^ l = omega (arith, e, below, twice) in
         let other : 2 ^ suc l - 1 - t ≡ 2 * (2 ^ l - 1 - j) + 1 = omega (arith, e, twice, less) in
@@ -45,7 +47,11 @@ rev_turned n l t below inside =
     let second : rev n u ≡ rev l u * 2 ^ suc m + 0 = part u small in
     let both : rev l t * 2 ^ suc m + rev l u * 2 ^ suc m ≡ (rev l t + rev l u) * 2 ^ suc m = omega arith in
     let all : (rev l t + rev l u) * 2 ^ suc m ≡ (2 ^ l - 1) * 2 ^ suc m = ap (λ x. x * 2 ^ suc m) (rev_flipped l t inside) in
-    let whole : (2 ^ l - 1) * 2 ^ suc m + 2 ^ suc m ≡ 2 ^ l * 2 ^ suc m = let some = pow_pos l in let e : suc (2 ^ l - 1) ≡ 2 ^ l = omega (arith, some) in let d : (2 ^ l - 1) * 2 ^ suc m + 2 ^ suc m ≡ suc (2 ^ l - 1) * 2 ^ suc m = omega arith in d ∙ ap (λ x. x * 2 ^ suc m) e in
+    let whole : (2 ^ l - 1) * 2 ^ suc m + 2 ^ suc m ≡ 2 ^ l * 2 ^ suc m =
+    let some = pow_pos l in
+    let e : suc (2 ^ l - 1) ≡ 2 ^ l = omega (arith, some) in
+    let d : (2 ^ l - 1) * 2 ^ suc m + 2 ^ suc m ≡ suc (2 ^ l - 1) * 2 ^ suc m = omega arith in
+    d ∙ ap (λ x. x * 2 ^ suc m) e in
     let power : 2 ^ l * 2 ^ suc m ≡ 2 ^ n = sym (pow-add 2 l (suc m)) ∙ ap (λ x. 2 ^ x) (sym size) in
     omega (arith, rev_above n l t below inside, rev_above n l u below small, first, second, both, all, whole, power, two-pow-succ m)
 

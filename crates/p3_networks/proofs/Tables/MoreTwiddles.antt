@@ -8,7 +8,9 @@ use Rattle.p3_networks.specs.Twiddles.{AreTwiddlesOfLayers}
 
 -- the twiddles of a layer lie within those of all layers
 pub layer_there : (k n : ℕ) → k < 64 → 2 ^ k - 1 ≤ n → (l : ℕ) → l < k → (l < 63) × (2 * 2 ^ l - 1 ≤ n)
-layer_there k n small room l h = let rise : 2 ^ suc l ≤ 2 ^ k = pow-le-pow_right {n = 2} (lit≤ tt) h in (omega (arith, h, small), omega (arith, rise, two-pow-succ l, room))
+layer_there k n small room l h =
+    let rise : 2 ^ suc l ≤ 2 ^ k = pow-le-pow_right {n = 2} (lit≤ tt) h in
+    (omega (arith, h, small), omega (arith, rise, two-pow-succ l, room))
 
 module _ {F : Type 0} (f : FieldMembers F) (p : ℕ → ℕ → f.Element) where
   pub fewer_layers : (k log : ℕ) (twiddles : List F) → k ≤ log → AreTwiddlesOfLayers f log p twiddles → AreTwiddlesOfLayers f k p twiddles

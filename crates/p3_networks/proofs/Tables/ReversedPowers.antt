@@ -27,7 +27,8 @@ abbrev pub layer_step : Bool → ℕ → ℕ → ℕ
 layer_step true n l = n - 1 - l
 layer_step false n l = l
 
-pub place_above : (reversed : Bool) (n l t : ℕ) → l < n → t < 2 ^ l → layer_place reversed n (2 ^ l + t) ≡ layer_place reversed n t + 2 ^ layer_step reversed n l
+pub place_above : (reversed : Bool) (n l t : ℕ) → l < n → t < 2 ^ l
+    → layer_place reversed n (2 ^ l + t) ≡ layer_place reversed n t + 2 ^ layer_step reversed n l
 place_above true n l t below inside = rev_above n l t below inside
 place_above false n l t below inside = let e : 2 ^ l + t ≡ t + 2 ^ l = omega arith in e
 

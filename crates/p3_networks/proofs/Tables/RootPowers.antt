@@ -22,9 +22,14 @@ module _ {F : Type 0} (f : FieldMembers F) (generator : ℕ → F) where
       → AreLowTwiddles f (root_of f generator inverse) (power f.ring f.ring.one n) mid at
   low_table inverse mid n at are l t below inside =
       let power_is = root_powers f generator inverse l t in
-      are l t below inside ∙ sym (ap (λ x. f.ring.mul x power_is) (ap (λ x. power f.ring x (2 ^ (mid - 1 - l))) (power_of_one f.ring n) ∙ power_of_one f.ring (2 ^ (mid - 1 - l))) ∙ Rings.one-mul f.ring power_is)
+      are l t below inside
+      ∙ sym (ap (λ x. f.ring.mul x power_is) (ap (λ x. power f.ring x (2 ^ (mid - 1 - l))) (power_of_one f.ring n)
+      ∙ power_of_one f.ring (2 ^ (mid - 1 - l)))
+      ∙ Rings.one-mul f.ring power_is)
 
   -- and so for the generators themselves
-  pub subgroup_table : (log : ℕ) (at : ℕ → ℕ → F) → ((l t : ℕ) → l < log → t < 2 ^ l → f.value (at l t) ≡ root_powers f generator false l t) → AreLowTwiddles f (λ n. f.value (generator n)) f.ring.one log at
+  pub subgroup_table : (log : ℕ) (at : ℕ → ℕ → F)
+      → ((l t : ℕ) → l < log → t < 2 ^ l → f.value (at l t) ≡ root_powers f generator false l t)
+      → AreLowTwiddles f (λ n. f.value (generator n)) f.ring.one log at
   subgroup_table log at are =
       subst (λ (s : f.Element). AreLowTwiddles f (λ n. f.value (generator n)) s log at) (power_of_one f.ring 0) (low_table false log 0 at are)

@@ -16,12 +16,16 @@ returns-clause-cells g c =
     record {
       near_cell = λ i inside.
           ap field.value (in_first low high i field.zero (omega (arith, inside, size)))
-          ∙ lane_at near field.value field.zero low c.split_at.result.0.now c.split_at.result.1.now i same (omega (arith, inside, front.front_len)) c.apply_to_rows_oop.ensures.near
-          ∙ of_halves (λ (x y : g.row.F.Denot). near (field.value x) (field.value y)) c.args.source.now _ _ c.args.size i field.zero front.front front.back inside;
+          ∙ lane_at near field.value field.zero low c.split_at.result.0.now c.split_at.result.1.now i same
+          (omega (arith, inside, front.front_len)) c.apply_to_rows_oop.ensures.near
+          ∙ of_halves (λ (x y : g.row.F.Denot). near (field.value x) (field.value y)) c.args.source.now _ _ c.args.size
+          i field.zero front.front front.back inside;
       far_cell = λ i inside.
           ap field.value (in_second low high c.args.size i field.zero size)
-          ∙ lane_at far field.value field.zero high c.split_at.result.0.now c.split_at.result.1.now i same (omega (arith, inside, front.front_len)) c.apply_to_rows_oop.ensures.far
-          ∙ of_halves (λ (x y : g.row.F.Denot). far (field.value x) (field.value y)) c.args.source.now _ _ c.args.size i field.zero front.front front.back inside;
+          ∙ lane_at far field.value field.zero high c.split_at.result.0.now c.split_at.result.1.now i same
+          (omega (arith, inside, front.front_len)) c.apply_to_rows_oop.ensures.far
+          ∙ of_halves (λ (x y : g.row.F.Denot). far (field.value x) (field.value y)) c.args.source.now _ _ c.args.size i
+          field.zero front.front front.back inside;
     }
 
 pub returns-clause-count : goal.returns-clause-count

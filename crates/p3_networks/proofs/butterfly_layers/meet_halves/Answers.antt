@@ -23,7 +23,9 @@ meet_ranges-requires-in-loop-t-clause-size g c = omega (arith, c.loop-t.invarian
 
 -- the first row, from its beginning
 at_zero : (P : ℕ → ℕ → Type 0) (w : ℕ) → P 0 w → P (0 * w) (0 * w + w)
-at_zero P w given = let none : 0 ≡ 0 * w = omega arith in let end : w ≡ 0 * w + w = omega arith in subst (λ n. P n (0 * w + w)) none (subst (λ n. P 0 n) end given)
+at_zero P w given =
+    let none : 0 ≡ 0 * w = omega arith in
+    let end : w ≡ 0 * w + w = omega arith in subst (λ n. P n (0 * w + w)) none (subst (λ n. P 0 n) end given)
 
 pub loop-t-init : goal.loop-t-init
 loop-t-init g c =
@@ -56,11 +58,18 @@ loop-t-preserved g c =
     λ j. ap field.value (c.loop-t.invariant.far.rest (t * w + j) (le-add_right _ j)) in
     record {
       near = rows-next zero w _ c.args.low.now c.loop-t.low met.new.low t met.auto.low met.ensures.low_stays
-          (λ j inside. met.ensures.near (t * w + j) (le-add_right _ j) (omega (arith, inside)) ∙ ap₂ (rule.near field.Element field.ring field.value c.args.rule c.args.block t) (a j) (b j)) c.loop-t.invariant.near;
+          (λ j inside. met.ensures.near (t * w + j) (le-add_right _ j) (omega (arith, inside))
+          ∙ ap₂ (rule.near field.Element field.ring field.value c.args.rule c.args.block t) (a j) (b j))
+          c.loop-t.invariant.near;
       far = rows-next zero w _ c.args.high.now c.loop-t.high met.new.high t met.auto.high met.ensures.high_stays
-          (λ j inside. met.ensures.far (t * w + j) (le-add_right _ j) (omega (arith, inside)) ∙ ap₂ (rule.far field.Element field.ring field.value c.args.rule c.args.block t) (a j) (b j)) c.loop-t.invariant.far;
+          (λ j inside. met.ensures.far (t * w + j) (le-add_right _ j) (omega (arith, inside))
+          ∙ ap₂ (rule.far field.Element field.ring field.value c.args.rule c.args.block t) (a j) (b j))
+          c.loop-t.invariant.far;
       grows = le_trans c.loop-t.invariant.grows met.ensures.grows;
-      cost = count_more rule.cost t w _ _ _ c.loop-t.invariant.cost (subst (λ (n : ℕ). met.new.products ≤ c.loop-t.products + rule.cost * n) (add-sub_cancel_left (t * w) w) met.ensures.cost);
+      cost =
+          count_more rule.cost t w _ _ _ c.loop-t.invariant.cost (subst
+          (λ (n : ℕ). met.new.products ≤ c.loop-t.products + rule.cost * n) (add-sub_cancel_left (t * w) w)
+          met.ensures.cost);
     }
 
 pub returns-clause-near : goal.returns-clause-near
@@ -70,4 +79,6 @@ pub returns-clause-far : goal.returns-clause-far
 returns-clause-far g c = rows-all g.F.Valued.zero c.args.width _ c.args.high.now c.loop-t.high c.loop-t.t c.args.half c.loop-t-test.false c.loop-t.invariant.far
 
 pub returns-clause-cost : goal.returns-clause-cost
-returns-clause-cost g c = count_all g.R.Rule.cost c.loop-t.t c.args.half c.args.width c.args.products.now c.loop-t.products (c.loop-t.auto.t-end c.requires.nonzero) c.loop-t.invariant.cost
+returns-clause-cost g c =
+    count_all g.R.Rule.cost c.loop-t.t c.args.half c.args.width c.args.products.now c.loop-t.products
+    (c.loop-t.auto.t-end c.requires.nonzero) c.loop-t.invariant.cost

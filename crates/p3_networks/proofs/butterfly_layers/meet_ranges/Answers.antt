@@ -23,7 +23,8 @@ returns-clause-near g c n first last =
     let inside : n - start < m = omega (arith, first, last) in
     let size = part_size c.args.low.now start m (omega (arith, c.requires.ordered, c.requires.room)) in
     ap (λ i. field.value (get_or (put_mid start m c.args.low.now c.meet.new.row_1) i field.zero)) (sym back)
-    ∙ ap field.value (put_in c.args.low.now c.meet.new.row_1 start m (n - start) field.zero (omega (arith, c.requires.ordered, c.requires.room)) (omega (arith, inside, c.meet.auto.row_1, size)))
+    ∙ ap field.value (put_in c.args.low.now c.meet.new.row_1 start m (n - start) field.zero
+    (omega (arith, c.requires.ordered, c.requires.room)) (omega (arith, inside, c.meet.auto.row_1, size)))
     ∙ c.meet.ensures.near (n - start) (omega (arith, inside, size))
     ∙ ap₂ (g.R.Rule.near field.Element field.ring field.value c.args.rule c.args.block c.args.place)
     (ap field.value (part_at c.args.low.now start m (n - start) field.zero inside ∙ ap (λ i. get_or c.args.low.now i field.zero) back))
@@ -39,7 +40,9 @@ returns-clause-far g c n first last =
     let size = part_size c.args.low.now start m (omega (arith, c.requires.ordered, c.requires.room)) in
     let size_2 = part_size c.args.high.now start m (omega (arith, c.requires.ordered, c.requires.room, c.requires.size)) in
     ap (λ i. field.value (get_or (put_mid start m c.args.high.now c.meet.new.row_2) i field.zero)) (sym back)
-    ∙ ap field.value (put_in c.args.high.now c.meet.new.row_2 start m (n - start) field.zero (omega (arith, c.requires.ordered, c.requires.room, c.requires.size)) (omega (arith, inside, c.meet.auto.row_2, size_2)))
+    ∙ ap field.value (put_in c.args.high.now c.meet.new.row_2 start m (n - start) field.zero
+    (omega (arith, c.requires.ordered, c.requires.room, c.requires.size))
+    (omega (arith, inside, c.meet.auto.row_2, size_2)))
     ∙ c.meet.ensures.far (n - start) (omega (arith, inside, size))
     ∙ ap₂ (g.R.Rule.far field.Element field.ring field.value c.args.rule c.args.block c.args.place)
     (ap field.value (part_at c.args.low.now start m (n - start) field.zero inside ∙ ap (λ i. get_or c.args.low.now i field.zero) back))
@@ -50,15 +53,20 @@ returns-clause-low_stays g c n outside =
     let m = c.args.end - c.args.start in
     let size = part_size c.args.low.now c.args.start m (omega (arith, c.requires.ordered, c.requires.room)) in
     let end : c.args.start + m ≡ c.args.end = omega (arith, c.requires.ordered) in
-    outside_kept c.args.low.now c.meet.new.row_1 c.args.start m n g.F.Valued.zero (omega (arith, c.requires.ordered, c.requires.room)) (c.meet.auto.row_1 ∙ size) (rw end outside)
+    outside_kept c.args.low.now c.meet.new.row_1 c.args.start m n g.F.Valued.zero
+    (omega (arith, c.requires.ordered, c.requires.room)) (c.meet.auto.row_1 ∙ size) (rw end outside)
 
 pub returns-clause-high_stays : goal.returns-clause-high_stays
 returns-clause-high_stays g c n outside =
     let m = c.args.end - c.args.start in
     let size = part_size c.args.high.now c.args.start m (omega (arith, c.requires.ordered, c.requires.room, c.requires.size)) in
     let end : c.args.start + m ≡ c.args.end = omega (arith, c.requires.ordered) in
-    outside_kept c.args.high.now c.meet.new.row_2 c.args.start m n g.F.Valued.zero (omega (arith, c.requires.ordered, c.requires.room, c.requires.size)) (c.meet.auto.row_2 ∙ size) (rw end outside)
+    outside_kept c.args.high.now c.meet.new.row_2 c.args.start m n g.F.Valued.zero
+    (omega (arith, c.requires.ordered, c.requires.room, c.requires.size)) (c.meet.auto.row_2 ∙ size)
+    (rw end outside)
 
 pub returns-clause-cost : goal.returns-clause-cost
 returns-clause-cost g c =
-    subst (λ (n : ℕ). c.meet.new.products ≤ c.args.products.now + g.R.Rule.cost * n) (part_size c.args.low.now c.args.start (c.args.end - c.args.start) (omega (arith, c.requires.ordered, c.requires.room))) c.meet.ensures.cost
+    subst (λ (n : ℕ). c.meet.new.products ≤ c.args.products.now + g.R.Rule.cost * n) (part_size c.args.low.now
+    c.args.start (c.args.end - c.args.start) (omega (arith, c.requires.ordered, c.requires.room)))
+    c.meet.ensures.cost

@@ -10,19 +10,30 @@ chunk_counted : (n each cost before now after : ℕ) → cost ≡ each → now �
 chunk_counted n each cost before now after is so_far turn = let next : (n + 1) * each ≡ n * each + each = omega arith in omega (arith, next, is, so_far, turn)
 
 pub overflow_mul-start : goal.overflow_mul-start
-overflow_mul-start g c = Fits-le (le_trans (le-add_right _ _) (block_room c.loop-n.n c.args.count c.args.size (length c.args.values.now) c.loop-n-test.true c.requires.whole)) search
+overflow_mul-start g c =
+    Fits-le (le_trans (le-add_right _ _)
+    (block_room c.loop-n.n c.args.count c.args.size (length c.args.values.now) c.loop-n-test.true c.requires.whole))
+    search
 
 pub overflow_add-chunk : goal.overflow_add-chunk
 overflow_add-chunk g c = Fits-le (block_room c.loop-n.n c.args.count c.args.size (length c.args.values.now) c.loop-n-test.true c.requires.whole) search
 
 pub offset_bounds-values-start : goal.offset_bounds-values-start
-offset_bounds-values-start g c = scaled_fits≤ _ _ _ (le_trans (le-add_right _ _) (block_room c.loop-n.n c.args.count c.args.size (length c.args.values.now) c.loop-n-test.true c.requires.whole)) search
+offset_bounds-values-start g c =
+    scaled_fits≤ _ _ _ (le_trans (le-add_right _ _)
+    (block_room c.loop-n.n c.args.count c.args.size (length c.args.values.now) c.loop-n-test.true c.requires.whole))
+    search
 
 pub slice_bounds-chunk-end : goal.slice_bounds-chunk-end
-slice_bounds-chunk-end g c = block_room c.loop-n.n c.args.count c.args.size (length c.loop-n.values) c.loop-n-test.true (c.loop-n.auto.values ∙ c.requires.whole)
+slice_bounds-chunk-end g c =
+    block_room c.loop-n.n c.args.count c.args.size (length c.loop-n.values) c.loop-n-test.true
+    (c.loop-n.auto.values ∙ c.requires.whole)
 
 pub on_chunk-requires : goal.on_chunk-requires
-on_chunk-requires g c = subst (g.W.ChunkWork.accepts c.args.work c.loop-n.n) (sym (part_length c.loop-n.values _ _ (block_room c.loop-n.n c.args.count c.args.size (length c.loop-n.values) c.loop-n-test.true (c.loop-n.auto.values ∙ c.requires.whole)))) (c.requires.accepts c.loop-n.n c.loop-n-test.true)
+on_chunk-requires g c =
+    subst (g.W.ChunkWork.accepts c.args.work c.loop-n.n) (sym (part_length c.loop-n.values _ _ (block_room c.loop-n.n
+    c.args.count c.args.size (length c.loop-n.values) c.loop-n-test.true (c.loop-n.auto.values ∙ c.requires.whole))))
+    (c.requires.accepts c.loop-n.n c.loop-n-test.true)
 
 pub loop-n-init : goal.loop-n-init
 loop-n-init g c = record { chunks = chunks_none _ _ _ c.args.values.now; grows = le_refl c.args.products.now; cost = le-add_right _ _ }
@@ -35,7 +46,9 @@ loop-n-preserved g c =
     let room = block_room n c.args.count size (length c.loop-n.values) c.loop-n-test.true (c.loop-n.auto.values ∙ c.requires.whole) in
     let part = part_length c.loop-n.values (n * size) size room in
     record {
-      chunks = chunks_next _ size _ c.args.values.now c.loop-n.values _ n room (c.on_chunk.auto.chunk ∙ part) c.on_chunk.ensures.chunk c.loop-n.invariant.chunks;
+      chunks =
+          chunks_next _ size _ c.args.values.now c.loop-n.values _ n room (c.on_chunk.auto.chunk ∙ part)
+          c.on_chunk.ensures.chunk c.loop-n.invariant.chunks;
       grows = le_trans c.loop-n.invariant.grows c.on_chunk.ensures.grows;
       cost = chunk_counted n _ _ _ _ _ (ap cost part) c.loop-n.invariant.cost c.on_chunk.ensures.cost;
     }
@@ -45,4 +58,5 @@ returns-clause-chunks g c n below = c.loop-n.invariant.chunks.done n (lt_of_lt_o
 
 pub returns-clause-cost : goal.returns-clause-cost
 returns-clause-cost g c =
-    at_end (λ n. 2 * c.loop-n.products ≤ 2 * c.args.products.now + n * g.W.ChunkWork.cost c.args.work c.args.size) c.loop-n.n c.args.count c.loop-n.auto.n-end c.loop-n-test.false c.loop-n.invariant.cost
+    at_end (λ n. 2 * c.loop-n.products ≤ 2 * c.args.products.now + n * g.W.ChunkWork.cost c.args.work c.args.size)
+    c.loop-n.n c.args.count c.loop-n.auto.n-end c.loop-n-test.false c.loop-n.invariant.cost

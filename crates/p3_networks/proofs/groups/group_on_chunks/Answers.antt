@@ -3,7 +3,9 @@ use Rattle.p3_networks.proofs.Layers.Tiles.{tile_rows, tile_sizes, tile_small, t
 use Rattle.p3_networks.proofs.groups.group_on_chunks.Goals as goal
 
 pub on_each_chunk-requires-clause-whole : goal.on_each_chunk-requires-clause-whole
-on_each_chunk-requires-clause-whole g c = (tile_sizes c.args.log_h c.args.layers.to c.args.layers.width (length c.args.values.now) c.requires.fits_u64 c.requires.below c.requires.size).whole
+on_each_chunk-requires-clause-whole g c =
+    (tile_sizes c.args.log_h c.args.layers.to c.args.layers.width (length c.args.values.now) c.requires.fits_u64
+    c.requires.below c.requires.size).whole
 
 pub on_each_chunk-requires-clause-accepts : goal.on_each_chunk-requires-clause-accepts
 on_each_chunk-requires-clause-accepts g c n below =
@@ -13,7 +15,21 @@ on_each_chunk-requires-clause-accepts g c n below =
     (c.requires.width, (c.requires.order, (small, (c.requires.piece, (sizes.size_is, λ b inside. c.requires.in_table b (omega (arith, rows, inside)))))))
 
 pub returns-clause-cells : goal.returns-clause-cells
-returns-clause-cells g c = let field = g.F.Valued in let sizes = tile_sizes c.args.log_h c.args.layers.to c.args.layers.width (length c.args.values.now) c.requires.fits_u64 c.requires.below c.requires.size in λ cells layers. tiles_taken field.value field.value field.zero _ _ _ _ _ _ _ _ _ _ cells c.args.values.now c.on_each_chunk.new.values sizes c.requires.width c.on_each_chunk.auto.values c.on_each_chunk.ensures.chunks layers
+returns-clause-cells g c =
+    let field = g.F.Valued in
+    let sizes =
+    tile_sizes c.args.log_h c.args.layers.to c.args.layers.width (length c.args.values.now) c.requires.fits_u64
+    c.requires.below c.requires.size in
+    λ cells layers. tiles_taken field.value field.value field.zero _ _ _ _ _ _ _ _ _ _ cells c.args.values.now
+    c.on_each_chunk.new.values sizes c.requires.width c.on_each_chunk.auto.values c.on_each_chunk.ensures.chunks layers
 
 pub returns-clause-cost : goal.returns-clause-cost
-returns-clause-cost g c = let sizes = tile_sizes c.args.log_h c.args.layers.to c.args.layers.width (length c.args.values.now) c.requires.fits_u64 c.requires.below c.requires.size in omega (arith, c.on_each_chunk.ensures.cost, tiles_cost _ _ _ _ _ _ (g.R.Rule.cost * (c.args.layers.to - c.args.layers.from)) sizes)
+returns-clause-cost g c =
+    let sizes =
+    tile_sizes c.args.log_h c.args.layers.to c.args.layers.width (length c.args.values.now) c.requires.fits_u64
+    c.requires.below c.requires.size in
+    omega (
+      arith,
+      c.on_each_chunk.ensures.cost,
+      tiles_cost _ _ _ _ _ _ (g.R.Rule.cost * (c.args.layers.to - c.args.layers.from)) sizes,
+    )

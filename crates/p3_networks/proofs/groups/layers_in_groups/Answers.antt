@@ -1,7 +1,8 @@
 use Rattle.std.proofs.Common.{◌≡◌, ℕ, ◌+◌, ◌-◌, ◌*◌, ◌≤◌, length, sym, ap, ap₂, ◌∙◌, subst, arith}
 use Rattle.p3_networks.specs.Groups.{cells_of, group_end, group_of}
 use Rattle.p3_networks.specs.Layers.{HoldsCells}
-use Rattle.p3_networks.proofs.Layers.Groups.{covered, covered_first, covered_last, covered_next, group_first, group_last, layers_more, stand, stand_first, stand_last}
+use Rattle.p3_networks.proofs.Layers.Groups.{covered, covered_first, covered_last, covered_next, group_first}
+use Rattle.p3_networks.proofs.Layers.Groups.{group_last, layers_more, stand, stand_first, stand_last}
 use Rattle.p3_networks.proofs.groups.layers_in_groups.Goals as goal
 
 pub loop-done-init : goal.loop-done-init
@@ -10,7 +11,9 @@ loop-done-init g c =
     let enough : c.args.log_h - c.args.log_rows ≤ 3 * c.groups-count.result = omega (arith, c.groups-count.ensures) in
     let none = covered_first c.args.order c.args.log_rows c.args.log_h c.groups-count.result c.requires.below enough in
     record {
-      cells = λ cells layers holds. subst (λ (e : ℕ). HoldsCells field.value field.zero 0 (cells e) c.args.values.now) (stand_first c.args.order c.args.log_rows c.args.log_h c.groups-count.result c.requires.below enough) holds;
+      cells =
+          λ cells layers holds. subst (λ (e : ℕ). HoldsCells field.value field.zero 0 (cells e) c.args.values.now)
+          (stand_first c.args.order c.args.log_rows c.args.log_h c.groups-count.result c.requires.below enough) holds;
       grows = omega arith;
       cost = omega arith;
     }
@@ -28,8 +31,10 @@ loop-done-preserved g c =
     let to = c.group_end-to.result in
     let from_is : from ≡ group_end r k (group_of order n done + 1) = c.group_end-from.ensures ∙ ap (λ m. group_end r k (m + 1)) c.group-group.ensures.group in
     let to_is : to ≡ group_end r k (group_of order n done) = c.group_end-to.ensures ∙ ap (λ m. group_end r k m) c.group-group.ensures.group in
-    let first : stand order r k n done ≡ cells_of order from to 0 = group_first order r k n done c.loop-done-test.true ∙ sym (ap₂ (λ a b. cells_of order a b 0) from_is to_is) in
-    let last : cells_of order from to (to - from) ≡ stand order r k n (done + 1) = ap₂ (λ a b. cells_of order a b (b - a)) from_is to_is ∙ group_last order r k n done c.loop-done-test.true in
+    let first : stand order r k n done ≡ cells_of order from to 0 =
+    group_first order r k n done c.loop-done-test.true ∙ sym (ap₂ (λ a b. cells_of order a b 0) from_is to_is) in
+    let last : cells_of order from to (to - from) ≡ stand order r k n (done + 1) =
+    ap₂ (λ a b. cells_of order a b (b - a)) from_is to_is ∙ group_last order r k n done c.loop-done-test.true in
     let more : covered order r k n (done + 1) ≡ covered order r k n done + (to - from) =
     covered_next order r k n done c.requires.below c.loop-done-test.true ∙ sym (ap₂ (λ a b. covered order r k n done + (b - a)) from_is to_is) in
     record {
@@ -38,9 +43,13 @@ loop-done-preserved g c =
           (c.group_on_chunks.ensures.cells cells layers
           (subst (λ (e : ℕ). HoldsCells field.value field.zero 0 (cells e) c.loop-done.values) first (c.loop-done.invariant.cells cells layers holds)));
       grows = omega (arith, c.loop-done.invariant.grows, c.group_on_chunks.ensures.grows);
-      cost = layers_more g.R.Rule.cost (covered order r k n done) (to - from) (covered order r k n (done + 1)) (length c.args.values.now) c.args.products.now c.loop-done.products c.group_on_chunks.new.products more
+      cost =
+          layers_more g.R.Rule.cost (covered order r k n done) (to - from) (covered order r k n (done + 1))
+          (length c.args.values.now) c.args.products.now c.loop-done.products c.group_on_chunks.new.products more
           c.loop-done.invariant.cost
-          (subst (λ (m : ℕ). 2 * c.group_on_chunks.new.products ≤ 2 * c.loop-done.products + g.R.Rule.cost * ((to - from) * m)) c.loop-done.auto.values c.group_on_chunks.ensures.cost);
+          (subst (λ (m : ℕ). 2 * c.group_on_chunks.new.products
+          ≤ 2 * c.loop-done.products + g.R.Rule.cost * ((to - from) * m)) c.loop-done.auto.values
+          c.group_on_chunks.ensures.cost);
     }
 
 pub returns-clause-cells : goal.returns-clause-cells

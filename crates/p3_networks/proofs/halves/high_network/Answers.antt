@@ -22,7 +22,8 @@ first_whole : (k : ℕ) → 1 ≤ k → 1 * (2 * 2 ^ (k - 1)) ≡ 2 ^ k
 first_whole k some = let e : k - 1 ≡ k - 1 - 0 = omega arith in ap (λ n. 1 * (2 * 2 ^ n)) e ∙ blocks_whole k 0 (omega arith)
 
 -- a scale adds at most one product for each cell
-counted : (cost pairs half all before after : ℕ) → pairs ≡ half → half ≤ all → after ≤ before + (1 + cost) * (1 * pairs) → after ≤ before + cost * all + 1 * (1 * half)
+counted : (cost pairs half all before after : ℕ) → pairs ≡ half → half ≤ all → after ≤ before + (1 + cost) * (1 * pairs)
+    → after ≤ before + cost * all + 1 * (1 * half)
 counted cost pairs half all before after is few count =
     let spread : (1 + cost) * (1 * pairs) ≡ half * cost + half = ap (λ n. (1 + cost) * (1 * n)) is ∙ omega arith in
     let turned : cost * all ≡ all * cost = omega arith in
@@ -60,7 +61,8 @@ loop-done-init g c =
       rows = λ root s roots table j r inside below.
           let coset = point field.ring root (mid + k) s (rev mid chunk) in
           let entry_is : (u : ℕ) → u < 1 → entry u ≡ twiddle field.ring root coset 0 (k - 1 - 0) (rev 0 u) =
-          λ u p. chunk_entry field root s mid k chunk 0 u mid (chunk + u) (g.T.LayerTwiddles.at c.args.table) roots table (omega arith) (omega arith) c.requires.chunk.chunk some p in
+          λ u p. chunk_entry field root s mid k chunk 0 u mid (chunk + u) (g.T.LayerTwiddles.at c.args.table) roots
+          table (omega arith) (omega arith) c.requires.chunk.chunk some p in
           let keep : k ≡ k - 0 = omega arith in
           let less : k - 1 ≡ k - 1 - 0 = omega arith in
           whole_layer_taken (high_rows field.ring root coset roots (λ u. scaled (u * w + j))) k 0 w half 1
@@ -73,7 +75,9 @@ loop-done-init g c =
           (λ u v. sym (high_start field.ring root coset (k - 0) (λ q. scaled (q * w + j)) u (subst (λ (n : ℕ). u < 2 ^ n) keep v)))
           r below;
       grows = c.scaled_layer.ensures.cost.grows;
-      cost = counted (scale_cost c.args.scale) (half * w) (2 ^ (k - 1) * w) (2 ^ k * w) _ _ (ap (λ n. n * w) h) (mul-le-mul_right w few) c.scaled_layer.ensures.cost.cost;
+      cost =
+          counted (scale_cost c.args.scale) (half * w) (2 ^ (k - 1) * w) (2 ^ k * w) _ _ (ap (λ n. n * w) h)
+          (mul-le-mul_right w few) c.scaled_layer.ensures.cost.cost;
     }
 
 pub overflow_mul-chunk : goal.overflow_mul-chunk
@@ -82,7 +86,8 @@ overflow_mul-chunk g c =
     let mid = c.args.mid in
     let highest : mid + done ≤ 63 = omega (arith, c.requires.chunk.fits_u64, c.loop-done-test.true) in
     let fits : 2 ^ (mid + done) ≤ 2 ^ 63 = pow-le-pow_right {n = 2} (lit≤ tt) highest in
-    rw (done_shift c.args.left done c.loop-done-test.true (omega (arith, c.requires.chunk.fits_u64))) (omega (arith, fits, blocks_within c.args.chunk mid done c.requires.chunk.chunk))
+    rw (done_shift c.args.left done c.loop-done-test.true (omega (arith, c.requires.chunk.fits_u64)))
+    (omega (arith, fits, blocks_within c.args.chunk mid done c.requires.chunk.chunk))
 
 pub layer_by_block-requires-clause-size : goal.layer_by_block-requires-clause-size
 layer_by_block-requires-clause-size g c =
@@ -95,11 +100,13 @@ layer_by_block-requires-clause-size g c =
 pub layer_by_block-requires-clause-table : goal.layer_by_block-requires-clause-table
 layer_by_block-requires-clause-table g c =
     let l = c.loop-done.done in
-    rw (done_shift c.args.left l c.loop-done-test.true (omega (arith, c.requires.chunk.fits_u64))) (blocks_within c.args.chunk c.args.mid l c.requires.chunk.chunk)
+    rw (done_shift c.args.left l c.loop-done-test.true (omega (arith, c.requires.chunk.fits_u64)))
+    (blocks_within c.args.chunk c.args.mid l c.requires.chunk.chunk)
 
 pub layer_by_block-requires-clause-in_table : goal.layer_by_block-requires-clause-in_table
 layer_by_block-requires-clause-in_table g c =
-    c.requires.chunk.table (c.args.mid + c.loop-done.done) (le-add_right c.args.mid c.loop-done.done) (in_second_half c.args.mid c.loop-done.done c.args.left c.loop-done-test.true)
+    c.requires.chunk.table (c.args.mid + c.loop-done.done) (le-add_right c.args.mid c.loop-done.done)
+    (in_second_half c.args.mid c.loop-done.done c.args.left c.loop-done-test.true)
 
 pub loop-done-preserved : goal.loop-done-preserved
 loop-done-preserved g c =
@@ -123,7 +130,9 @@ loop-done-preserved g c =
       rows = λ root s roots table j r inside below.
           let coset = point field.ring root (mid + k) s (rev mid chunk) in
           let entry_is : (u : ℕ) → u < blocks → entry u ≡ twiddle field.ring root coset l (k - 1 - l) (rev l u) =
-          λ u p. chunk_entry field root s mid k chunk l u (mid + l) (chunk * blocks + u) (g.T.LayerTwiddles.at c.args.table) roots table refl (ap (λ n. chunk * n + u) b) c.requires.chunk.chunk c.loop-done-test.true (omega (arith, p, b)) in
+          λ u p. chunk_entry field root s mid k chunk l u (mid + l) (chunk * blocks + u)
+          (g.T.LayerTwiddles.at c.args.table) roots table refl (ap (λ n. chunk * n + u) b) c.requires.chunk.chunk
+          c.loop-done-test.true (omega (arith, p, b)) in
           whole_layer_taken (high_rows field.ring root coset roots (λ u. scaled (u * w + j))) k l w half blocks
           (λ u t. dit_near field.ring (entry u)) (λ u t. dit_far field.ring (entry u)) before after
           (omega arith) c.loop-done-test.true h whole
@@ -133,7 +142,9 @@ loop-done-preserved g c =
           j inside
           (λ u v. c.loop-done.invariant.rows root s roots table j u inside v)
           r below;
-      cost = layer_counted 1 k l w blocks half _ c.loop-done.products c.layer_by_block.new.products c.loop-done-test.true whole c.loop-done.invariant.cost c.layer_by_block.ensures.cost.cost;
+      cost =
+          layer_counted 1 k l w blocks half _ c.loop-done.products c.layer_by_block.new.products c.loop-done-test.true
+          whole c.loop-done.invariant.cost c.layer_by_block.ensures.cost.cost;
       grows = omega (arith, c.loop-done.invariant.grows, c.layer_by_block.ensures.cost.grows);
     }
 
@@ -162,7 +173,11 @@ pub scaled_layer-requires-clause-table : goal.scaled_layer-requires-clause-table
 scaled_layer-requires-clause-table g c = omega (arith, c.requires.chunk.chunk)
 
 pub layer_by_block-requires-clause-nonzero : goal.layer_by_block-requires-clause-nonzero
-layer_by_block-requires-clause-nonzero g c = some_rows _ (c.args.left - 1 - c.loop-done.done) (left_shift c.args.left c.loop-done.done c.loop-done-test.true (omega (arith, c.requires.chunk.fits_u64)))
+layer_by_block-requires-clause-nonzero g c =
+    some_rows _ (c.args.left - 1 - c.loop-done.done)
+    (left_shift c.args.left c.loop-done.done c.loop-done-test.true (omega (arith, c.requires.chunk.fits_u64)))
 
 pub layer_by_block-requires-clause-blocks : goal.layer_by_block-requires-clause-blocks
-layer_by_block-requires-clause-blocks g c = some_rows _ c.loop-done.done (done_shift c.args.left c.loop-done.done c.loop-done-test.true (omega (arith, c.requires.chunk.fits_u64)))
+layer_by_block-requires-clause-blocks g c =
+    some_rows _ c.loop-done.done
+    (done_shift c.args.left c.loop-done.done c.loop-done-test.true (omega (arith, c.requires.chunk.fits_u64)))

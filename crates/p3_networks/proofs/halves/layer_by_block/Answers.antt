@@ -6,7 +6,8 @@ layer-requires-clause-in_table g c b t p q =
     let field = g.F.Valued in (
       c.requires.in_table,
       omega (arith, p, c.requires.table),
-      λ _. ap field.value (sym c.get.ensures) ∙ (g.met.F.Field.eq_law _ _).0 (sym c.eq.ensures ∙ c.if-eq.true) ∙ ap field.value c.ONE.ensures ∙ g.met.F.Field.one_law,
+      λ _. ap field.value (sym c.get.ensures) ∙ (g.met.F.Field.eq_law _ _).0 (sym c.eq.ensures ∙ c.if-eq.true)
+          ∙ ap field.value c.ONE.ensures ∙ g.met.F.Field.one_law,
     )
 
 pub returns-then-eq-clause-cells : goal.returns-then-eq-clause-cells

@@ -23,11 +23,18 @@ loop-l-preserved g c =
     let whole = halves_whole k l c.loop-l-test.true in
     record {
       rows = λ root s roots layers j r inside below.
-          low_layer field root s k w roots l (2 ^ l) (2 ^ (k - 1 - l)) (g.T.LayerTwiddles.at c.args.table) (λ u. field.value (get_or c.args.values.now (rev k u * w + j) field.zero))
+          low_layer field root s k w roots l (2 ^ l) (2 ^ (k - 1 - l)) (g.T.LayerTwiddles.at c.args.table)
+          (λ u. field.value (get_or c.args.values.now (rev k u * w + j) field.zero))
           (λ n. field.value (get_or c.loop-l.values n field.zero)) (λ n. field.value (get_or c.one_low_layer.new.values n field.zero))
           c.loop-l-test.true refl whole layers c.one_low_layer.ensures.cells j inside
           (λ u v. c.loop-l.invariant.rows root s roots layers j u inside v) r below;
-      cost = record { grows = omega (arith, c.loop-l.invariant.cost.grows, c.one_low_layer.ensures.cost.grows); cost = layer_counted 1 k l w (2 ^ (k - 1 - l)) (2 ^ l) c.args.products.now c.loop-l.products c.one_low_layer.new.products c.loop-l-test.true whole c.loop-l.invariant.cost.cost c.one_low_layer.ensures.cost.cost };
+      cost = record {
+        grows = omega (arith, c.loop-l.invariant.cost.grows, c.one_low_layer.ensures.cost.grows);
+        cost =
+            layer_counted 1 k l w (2 ^ (k - 1 - l)) (2 ^ l) c.args.products.now c.loop-l.products
+            c.one_low_layer.new.products c.loop-l-test.true whole c.loop-l.invariant.cost.cost
+            c.one_low_layer.ensures.cost.cost;
+      };
     }
 
 pub returns-clause-values : goal.returns-clause-values
@@ -40,4 +47,5 @@ returns-clause-cost g c =
     let k = c.args.log_h in
     let w = c.args.width in
     let e : c.loop-l.l ≡ k = omega arith in
-    subst (λ (n : ℕ). RisesAtMost n c.args.products.now c.loop-l.products) (ap (λ n. 1 * (n * (2 ^ (k - 1) * w))) e ∙ layers_counted k w) c.loop-l.invariant.cost
+    subst (λ (n : ℕ). RisesAtMost n c.args.products.now c.loop-l.products)
+    (ap (λ n. 1 * (n * (2 ^ (k - 1) * w))) e ∙ layers_counted k w) c.loop-l.invariant.cost

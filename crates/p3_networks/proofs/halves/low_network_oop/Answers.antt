@@ -19,10 +19,14 @@ cells_of_pairs : (k w : ℕ) → 0 < k → k < 64 → 2 ^ k * w ≡ one_shifted 
 cells_of_pairs k w some small = rw (pairs_are k some small) (ap (λ n. n * w) (pairs_whole k some) ∙ omega arith)
 
 pub first_layer_oop-requires-clause-source : goal.first_layer_oop-requires-clause-source
-first_layer_oop-requires-clause-source g c = c.requires.source ∙ c.requires.rows.size ∙ cells_of_pairs c.args.log_h c.args.width (omega (arith, c.if-log_h-eq0.false)) c.requires.rows.fits_u64
+first_layer_oop-requires-clause-source g c =
+    c.requires.source ∙ c.requires.rows.size
+    ∙ cells_of_pairs c.args.log_h c.args.width (omega (arith, c.if-log_h-eq0.false)) c.requires.rows.fits_u64
 
 pub first_layer_oop-requires-clause-size : goal.first_layer_oop-requires-clause-size
-first_layer_oop-requires-clause-size g c = c.requires.rows.size ∙ cells_of_pairs c.args.log_h c.args.width (omega (arith, c.if-log_h-eq0.false)) c.requires.rows.fits_u64
+first_layer_oop-requires-clause-size g c =
+    c.requires.rows.size
+    ∙ cells_of_pairs c.args.log_h c.args.width (omega (arith, c.if-log_h-eq0.false)) c.requires.rows.fits_u64
 
 pub first_layer_oop-requires-clause-table : goal.first_layer_oop-requires-clause-table
 first_layer_oop-requires-clause-table g c = c.requires.table 0 (omega (arith, c.if-log_h-eq0.false))
@@ -39,7 +43,8 @@ loop-l-init g c =
     record {
       rows = λ root s roots layers j r inside below.
           let cell = λ (n : ℕ). field.value (get_or c.args.source.now n field.zero) in
-          low_first field root s k w roots pairs (g.T.LayerTwiddles.at c.args.table) (λ q. cell (rev k q * w + j)) cell (λ n. field.value (get_or c.first_layer_oop.new.values n field.zero))
+          low_first field root s k w roots pairs (g.T.LayerTwiddles.at c.args.table) (λ q. cell (rev k q * w + j)) cell
+          (λ n. field.value (get_or c.first_layer_oop.new.values n field.zero))
           some (rw are (sym (pairs_whole k some))) layers c.first_layer_oop.ensures.cells j inside
           (λ u v. low_begun field root s k w cell j u v) r below;
       cost = record { grows = c.first_layer_oop.ensures.cost.grows; cost = omega (arith, c.first_layer_oop.ensures.cost.cost, cells) };
@@ -54,11 +59,18 @@ loop-l-preserved g c =
     let whole = halves_whole k l c.loop-l-test.true in
     record {
       rows = λ root s roots layers j r inside below.
-          low_layer field root s k w roots l (2 ^ l) (2 ^ (k - 1 - l)) (g.T.LayerTwiddles.at c.args.table) (λ u. field.value (get_or c.args.source.now (rev k u * w + j) field.zero))
+          low_layer field root s k w roots l (2 ^ l) (2 ^ (k - 1 - l)) (g.T.LayerTwiddles.at c.args.table)
+          (λ u. field.value (get_or c.args.source.now (rev k u * w + j) field.zero))
           (λ n. field.value (get_or c.loop-l.values n field.zero)) (λ n. field.value (get_or c.one_low_layer.new.values n field.zero))
           c.loop-l-test.true refl whole layers c.one_low_layer.ensures.cells j inside
           (λ u v. c.loop-l.invariant.rows root s roots layers j u inside v) r below;
-      cost = record { grows = omega (arith, c.loop-l.invariant.cost.grows, c.one_low_layer.ensures.cost.grows); cost = layer_counted 1 k l w (2 ^ (k - 1 - l)) (2 ^ l) c.args.products.now c.loop-l.products c.one_low_layer.new.products c.loop-l-test.true whole c.loop-l.invariant.cost.cost c.one_low_layer.ensures.cost.cost };
+      cost = record {
+        grows = omega (arith, c.loop-l.invariant.cost.grows, c.one_low_layer.ensures.cost.grows);
+        cost =
+            layer_counted 1 k l w (2 ^ (k - 1 - l)) (2 ^ l) c.args.products.now c.loop-l.products
+            c.one_low_layer.new.products c.loop-l-test.true whole c.loop-l.invariant.cost.cost
+            c.one_low_layer.ensures.cost.cost;
+      };
     }
 
 pub returns-then-log_h-eq0-clause-values : goal.returns-then-log_h-eq0-clause-values
@@ -67,7 +79,8 @@ returns-then-log_h-eq0-clause-values g c root s roots layers r j q p =
     let k = c.args.log_h in
     let w = c.args.width in
     rw c.copy_from_slice.ensures.after
-    (low_done field root s k w 0 _ _ r (sym c.if-log_h-eq0.true) (low_begun field root s k w (λ n. field.value (get_or c.args.source.now n field.zero)) j r q) q)
+    (low_done field root s k w 0 _ _ r (sym c.if-log_h-eq0.true)
+    (low_begun field root s k w (λ n. field.value (get_or c.args.source.now n field.zero)) j r q) q)
 
 pub returns-after-loop-l-clause-values : goal.returns-after-loop-l-clause-values
 returns-after-loop-l-clause-values g c root s roots layers r j q p =
@@ -79,4 +92,5 @@ returns-after-loop-l-clause-cost g c =
     let k = c.args.log_h in
     let w = c.args.width in
     let e : c.loop-l.l ≡ k = omega arith in
-    subst (λ (n : ℕ). RisesAtMost n c.args.products.now c.loop-l.products) (ap (λ n. 1 * (n * (2 ^ (k - 1) * w))) e ∙ layers_counted k w) c.loop-l.invariant.cost
+    subst (λ (n : ℕ). RisesAtMost n c.args.products.now c.loop-l.products)
+    (ap (λ n. 1 * (n * (2 ^ (k - 1) * w))) e ∙ layers_counted k w) c.loop-l.invariant.cost

@@ -18,7 +18,9 @@ pub layer-requires-clause-blocks : goal.layer-requires-clause-blocks
 layer-requires-clause-blocks g c = some_rows _ (c.args.log_h - 1 - c.args.l) (left_shift c.args.log_h c.args.l c.requires.below c.requires.rows.fits_u64)
 
 pub layer-requires-else-eq-clause-blocks : goal.layer-requires-else-eq-clause-blocks
-layer-requires-else-eq-clause-blocks g c = some_rows _ (c.args.log_h - 1 - c.args.l) (left_shift c.args.log_h c.args.l c.requires.below c.requires.rows.fits_u64)
+layer-requires-else-eq-clause-blocks g c =
+    some_rows _ (c.args.log_h - 1 - c.args.l)
+    (left_shift c.args.log_h c.args.l c.requires.below c.requires.rows.fits_u64)
 
 pub layer-requires-clause-size : goal.layer-requires-clause-size
 layer-requires-clause-size g c = filled c.args.log_h c.args.l c.args.width _ c.requires.below c.requires.rows
@@ -31,7 +33,8 @@ layer-requires-clause-in_table g c b t p q =
     let field = g.F.Valued in (
       c.requires.table,
       omega (arith, q, done_shift c.args.log_h c.args.l c.requires.below c.requires.rows.fits_u64),
-      λ _. ap field.value (sym c.get.ensures) ∙ (g.met.F.Field.eq_law _ _).0 (sym c.eq.ensures ∙ c.if-eq.true) ∙ ap field.value c.ONE.ensures ∙ g.met.F.Field.one_law,
+      λ _. ap field.value (sym c.get.ensures) ∙ (g.met.F.Field.eq_law _ _).0 (sym c.eq.ensures ∙ c.if-eq.true)
+          ∙ ap field.value c.ONE.ensures ∙ g.met.F.Field.one_law,
     )
 
 pub layer-requires-else-eq-clause-in_table : goal.layer-requires-else-eq-clause-in_table
@@ -40,20 +43,34 @@ layer-requires-else-eq-clause-in_table g c b t p q =
 
 pub returns-then-eq-clause-cells : goal.returns-then-eq-clause-cells
 returns-then-eq-clause-cells g c =
-    rw (done_shift c.args.log_h c.args.l c.requires.below c.requires.rows.fits_u64, left_shift c.args.log_h c.args.l c.requires.below c.requires.rows.fits_u64) at c.layer.ensures.cells
+    rw (
+      done_shift c.args.log_h c.args.l c.requires.below c.requires.rows.fits_u64,
+      left_shift c.args.log_h c.args.l c.requires.below c.requires.rows.fits_u64,
+    ) at c.layer.ensures.cells
 
 pub returns-else-eq-clause-cells : goal.returns-else-eq-clause-cells
 returns-else-eq-clause-cells g c =
-    rw (done_shift c.args.log_h c.args.l c.requires.below c.requires.rows.fits_u64, left_shift c.args.log_h c.args.l c.requires.below c.requires.rows.fits_u64) at c.layer-else-eq.ensures.cells
+    rw (
+      done_shift c.args.log_h c.args.l c.requires.below c.requires.rows.fits_u64,
+      left_shift c.args.log_h c.args.l c.requires.below c.requires.rows.fits_u64,
+    ) at c.layer-else-eq.ensures.cells
 
 pub returns-then-eq-clause-cost : goal.returns-then-eq-clause-cost
 returns-then-eq-clause-cost g c = record {
   grows = c.layer.ensures.grows;
-  cost = rw (done_shift c.args.log_h c.args.l c.requires.below c.requires.rows.fits_u64, left_shift c.args.log_h c.args.l c.requires.below c.requires.rows.fits_u64) at c.layer.ensures.cost;
+  cost =
+      rw (
+        done_shift c.args.log_h c.args.l c.requires.below c.requires.rows.fits_u64,
+        left_shift c.args.log_h c.args.l c.requires.below c.requires.rows.fits_u64,
+      ) at c.layer.ensures.cost;
 }
 
 pub returns-else-eq-clause-cost : goal.returns-else-eq-clause-cost
 returns-else-eq-clause-cost g c = record {
   grows = c.layer-else-eq.ensures.grows;
-  cost = rw (done_shift c.args.log_h c.args.l c.requires.below c.requires.rows.fits_u64, left_shift c.args.log_h c.args.l c.requires.below c.requires.rows.fits_u64) at c.layer-else-eq.ensures.cost;
+  cost =
+      rw (
+        done_shift c.args.log_h c.args.l c.requires.below c.requires.rows.fits_u64,
+        left_shift c.args.log_h c.args.l c.requires.below c.requires.rows.fits_u64,
+      ) at c.layer-else-eq.ensures.cost;
 }

@@ -19,6 +19,10 @@ returns-in-None-clause-cells g c =
     let t = λ (b : ℕ). field.value (g.T.LayerTwiddles.at c.args.table c.args.l (c.args.block + b)) in
     rw c.in-None.is
     (λ b p. record {
-      near_cell = λ i q. (c.layer_by_block.ensures.cells b p).near_cell i q ∙ ap₂ (dit_near field.ring (t b)) (sym (field.ring.mul_one _)) (sym (field.ring.mul_one _));
-      far_cell = λ i q. (c.layer_by_block.ensures.cells b p).far_cell i q ∙ ap₂ (dit_far field.ring (t b)) (sym (field.ring.mul_one _)) (sym (field.ring.mul_one _));
+      near_cell =
+          λ i q. (c.layer_by_block.ensures.cells b p).near_cell i q
+          ∙ ap₂ (dit_near field.ring (t b)) (sym (field.ring.mul_one _)) (sym (field.ring.mul_one _));
+      far_cell =
+          λ i q. (c.layer_by_block.ensures.cells b p).far_cell i q
+          ∙ ap₂ (dit_far field.ring (t b)) (sym (field.ring.mul_one _)) (sym (field.ring.mul_one _));
     })

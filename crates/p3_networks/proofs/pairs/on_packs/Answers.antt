@@ -9,7 +9,8 @@ use Rattle.p3_networks.proofs.pairs.on_packs.Goals as goal
 pub overflow_mul-width : goal.overflow_mul-width
 overflow_mul-width g c =
     let p = whole_packs (length c.args.twiddles.now) c.requires.whole.0 _ c.WIDTH-width.result c.requires.width c.WIDTH-width.ensures c.requires.whole.1 in
-    let one : 1 * c.WIDTH-width.result ≤ length c.args.twiddles.now / c.WIDTH-width.result * c.WIDTH-width.result = mul-le-mul_right c.WIDTH-width.result c.if-count-gt0.true in
+    let one : 1 * c.WIDTH-width.result ≤ length c.args.twiddles.now / c.WIDTH-width.result * c.WIDTH-width.result =
+    mul-le-mul_right c.WIDTH-width.result c.if-count-gt0.true in
     omega (arith, one, p, c.requires.size)
 
 pub on_each_chunk-requires-clause-whole : goal.on_each_chunk-requires-clause-whole
@@ -30,7 +31,8 @@ returns-then-count-gt0-clause-pairs g c =
     let len = length c.args.twiddles.now in
     let count = len / c.WIDTH-width.result in
     let p = whole_packs (length c.args.twiddles.now) c.requires.whole.0 _ c.WIDTH-width.result c.requires.width c.WIDTH-width.ensures c.requires.whole.1 in
-    pairs_of_chunks field.value field.zero (g.D.Decimation.near field.Element field.ring field.value c.args.decimation) (g.D.Decimation.far field.Element field.ring field.value c.args.decimation)
+    pairs_of_chunks field.value field.zero (g.D.Decimation.near field.Element field.ring field.value c.args.decimation)
+    (g.D.Decimation.far field.Element field.ring field.value c.args.decimation)
     _ count (2 * c.WIDTH-width.result) c.args.twiddles.now c.args.values.now c.on_each_chunk.new.values c.requires.width (ap (λ m. 2 * m) c.WIDTH-width.ensures)
     c.on_each_chunk.ensures.chunks len (p ∙ ap (λ m. count * m) c.WIDTH-width.ensures)
 

@@ -1,4 +1,5 @@
-use Rattle.std.proofs.Common.{◌≡◌, ℕ, ◌+◌, ◌*◌, ◌-◌, ◌^◌, ◌<◌, ◌≤◌, [], ◌∷◌, ◌++◌, suc, length, get_or, refl, sym, ap, ap₂, ◌∙◌, arith, add-one, lit≤, length-append, subst}
+use Rattle.std.proofs.Common.{◌≡◌, ℕ, ◌+◌, ◌*◌, ◌-◌, ◌^◌, ◌<◌, ◌≤◌, [], ◌∷◌, ◌++◌, suc, length, get_or, refl, sym, ap}
+use Rattle.std.proofs.Common.{ap₂, ◌∙◌, arith, add-one, lit≤, length-append, subst}
 use Rattle.std.proofs.Math.Nat.{pow-le-pow_right, two-pow-succ}
 use Rattle.std.proofs.lemmas.List.{get_or_push, get_or_read_under}
 use borrow.Author.Count.{below_more}
@@ -48,7 +49,8 @@ loop-b-init g c =
     let field = g.F.Valued in
     let n = c.args.log_h - 1 in
     let chunk = chunk_of n c.loop-l.l (omega (arith, c.requires.nonzero, c.requires.fits_u64)) (omega (arith, c.loop-l-test.true)) in
-    subst (λ (m : ℕ). AreTwiddles field m (block_powers field (backward_root field g.F.TwoAdicField.generator) n) c.loop-l.inverse.items) (sym chunk.is) c.loop-l.invariant
+    subst (λ (m : ℕ). AreTwiddles field m (block_powers field (backward_root field g.F.TwoAdicField.generator) n)
+    c.loop-l.inverse.items) (sym chunk.is) c.loop-l.invariant
 
 pub overflow_mul-chunk : goal.overflow_mul-chunk
 overflow_mul-chunk g c =
@@ -83,11 +85,17 @@ loop-b-preserved g c =
     (omega (arith, chunk.room, chunk.is, c.requires.powers.size, from, pow_pos l)) refl)
     ∙ ap (λ x. field.ring.neg (field.value (get_or c.args.powers.now x field.zero))) place
     ∙ ap field.ring.neg (c.requires.powers.entries (3 * 2 ^ l - 1 - b) (omega (arith, chunk.room, chunk.is, from, pow_pos l)))
-    ∙ inverse_entry field.ring g.met.F.TwoAdicField.roots_law n l b (omega (arith, c.requires.nonzero, c.requires.within)) (omega (arith, c.loop-l-test.true)) from until in
+    ∙ inverse_entry field.ring g.met.F.TwoAdicField.roots_law n l b
+    (omega (arith, c.requires.nonzero, c.requires.within)) (omega (arith, c.loop-l-test.true)) from until in
     record {
       size = ap length now ∙ length-append before (c.neg.result ∷ []) ∙ ap (λ k. k + 1) c.loop-b.invariant.size;
-      entries = below_more (λ e. field.value (get_or c.push-in-loop-b.new.items.items e field.zero) ≡ block_powers field (backward_root field g.F.TwoAdicField.generator) n e) b
-          (λ e below. ap (λ xs. field.value (get_or xs e field.zero)) now ∙ ap field.value (in_first before (c.neg.result ∷ []) e field.zero (omega (arith, below, c.loop-b.invariant.size))) ∙ c.loop-b.invariant.entries e below)
+      entries =
+          below_more (λ e. field.value (get_or c.push-in-loop-b.new.items.items e field.zero)
+          ≡ block_powers field (backward_root field g.F.TwoAdicField.generator) n e) b
+          (λ e below. ap (λ xs. field.value (get_or xs e field.zero)) now
+          ∙ ap field.value
+          (in_first before (c.neg.result ∷ []) e field.zero (omega (arith, below, c.loop-b.invariant.size)))
+          ∙ c.loop-b.invariant.entries e below)
           (ap (λ xs. field.value (get_or xs b field.zero)) now ∙ ap field.value (get_or_push before c.neg.result field.zero b c.loop-b.invariant.size) ∙ entry);
     }
 
@@ -105,7 +113,8 @@ returns-clause-powers g c =
     let field = g.F.Valued in
     let n = c.args.log_h - 1 in
     let end : c.loop-l.l ≡ n = omega (arith, c.loop-l-test.false, c.loop-l.auto.l-end) in
-    subst (λ (m : ℕ). AreTwiddles field (2 ^ m) (block_powers field (backward_root field g.F.TwoAdicField.generator) n) c.loop-l.inverse.items) end c.loop-l.invariant
+    subst (λ (m : ℕ). AreTwiddles field (2 ^ m) (block_powers field (backward_root field g.F.TwoAdicField.generator) n)
+    c.loop-l.inverse.items) end c.loop-l.invariant
 
 pub returns-in_err-push-2-clause-room : goal.returns-in_err-push-2-clause-room
 returns-in_err-push-2-clause-room g c =

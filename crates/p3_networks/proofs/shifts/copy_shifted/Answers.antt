@@ -20,7 +20,12 @@ offset_bounds-values-start g c =
     scaled_fits≤ _ _ _ below (search rules)
 
 pub slice_bounds-row-end : goal.slice_bounds-row-end
-slice_bounds-row-end g c = omega (arith, block_room c.loop-i.i c.args.height c.args.width (length c.args.values.now) c.loop-i-test.true c.requires.size, c.loop-i.auto.values)
+slice_bounds-row-end g c =
+    omega (
+      arith,
+      block_room c.loop-i.i c.args.height c.args.width (length c.args.values.now) c.loop-i-test.true c.requires.size,
+      c.loop-i.auto.values,
+    )
 
 pub overflow_add-start : goal.overflow_add-start
 overflow_add-start g c = omega (arith, block_room c.loop-i.i c.args.height c.args.width (length c.args.rows.now) c.loop-i-test.true c.requires.source)
@@ -60,10 +65,18 @@ loop-i-preserved g c =
           ∙ sym (power-more field.ring (field.value c.args.shift) i);
       values = rows-more field.zero w _ _ c.loop-i.values c.scale_slice_in_place.new.values i _ m room len
           (λ k inside.
-          value_at field.value (λ x. field.ring.mul x (field.value c.loop-i.factor)) c.copy_from_slice-in-loop-i.new.self c.scale_slice_in_place.new.values k field.zero c.scale_slice_in_place.ensures.values c.scale_slice_in_place.auto.values (subst (λ n. k < n) (sym (ap length copied ∙ part_len)) inside)
-          ∙ ap₂ field.ring.mul (ap (λ xs. field.value (get_or xs k field.zero)) copied ∙ ap field.value (part_at c.args.rows.now (i * w) ((i * w + w) - i * w) k field.zero (subst (λ n. k < n) (sym m) inside))) c.loop-i.invariant.factor)
+          value_at field.value (λ x. field.ring.mul x (field.value c.loop-i.factor))
+          c.copy_from_slice-in-loop-i.new.self c.scale_slice_in_place.new.values k field.zero
+          c.scale_slice_in_place.ensures.values c.scale_slice_in_place.auto.values
+          (subst (λ n. k < n) (sym (ap length copied ∙ part_len)) inside)
+          ∙ ap₂ field.ring.mul (ap (λ xs. field.value (get_or xs k field.zero)) copied ∙ ap field.value
+          (part_at c.args.rows.now (i * w) ((i * w + w) - i * w) k field.zero (subst (λ n. k < n) (sym m) inside)))
+          c.loop-i.invariant.factor)
           c.loop-i.invariant.values;
-      count = turn_counted i w (length c.copy_from_slice-in-loop-i.new.self) c.args.products.now c.loop-i.products c.scale_slice_in_place.new.products (ap length copied ∙ part_len) c.loop-i.invariant.count c.scale_slice_in_place.ensures.count;
+      count =
+          turn_counted i w (length c.copy_from_slice-in-loop-i.new.self) c.args.products.now c.loop-i.products
+          c.scale_slice_in_place.new.products (ap length copied ∙ part_len) c.loop-i.invariant.count
+          c.scale_slice_in_place.ensures.count;
     }
 
 pub returns-clause-values : goal.returns-clause-values

@@ -11,6 +11,8 @@ returns-clause-values g c =
     let packs_after = c.scale_packs.new.values in
     let first = field.value c.args.first in
     let base = field.value c.args.base in
-    subst (λ (xs : List g.row.F.Denot). IsScaled field.ring field.value field.zero first base xs (single_after ++ packs_after)) (sym c.split_at_mut-single.ensures.value)
-    (scaled_in_parts field.ring field.value field.zero first base (field.value c.scale_each-next.result) single packs single_after packs_after c.scale_each-next.auto.values
+    subst (λ (xs : List g.row.F.Denot). IsScaled field.ring field.value field.zero first base xs
+    (single_after ++ packs_after)) (sym c.split_at_mut-single.ensures.value)
+    (scaled_in_parts field.ring field.value field.zero first base (field.value c.scale_each-next.result) single packs
+    single_after packs_after c.scale_each-next.auto.values
     c.scale_each-next.ensures.next c.scale_each-next.ensures.values c.scale_packs.ensures.values)

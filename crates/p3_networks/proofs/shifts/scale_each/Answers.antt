@@ -26,7 +26,11 @@ loop-i-preserved g c =
     ap field.value (c.index-values-i.is ∙ get_or_default l.values i _ field.zero below ∙ l.invariant.rest i (omega arith)) in
     record {
       next = next_power field.ring _ _ _ _ i l.invariant.next (g.met.F.Field.mul_law _ _ _ c.mul-factor.ensures);
-      done = next_written field.value field.zero want l.values i c.scaled.result below l.invariant.done (c.scaled.ensures.value ∙ ap₂ field.ring.mul entry l.invariant.next);
-      rest = λ k after. get_or-set_other l.values i k c.scaled.result field.zero (λ same. absurd (omega (arith, same, after))) ∙ l.invariant.rest k (omega (arith, after));
+      done =
+          next_written field.value field.zero want l.values i c.scaled.result below l.invariant.done
+          (c.scaled.ensures.value ∙ ap₂ field.ring.mul entry l.invariant.next);
+      rest =
+          λ k after. get_or-set_other l.values i k c.scaled.result field.zero (λ same. absurd (omega (arith, same, after)))
+          ∙ l.invariant.rest k (omega (arith, after));
       count = omega (arith, l.invariant.count, c.scaled.ensures.count);
     }

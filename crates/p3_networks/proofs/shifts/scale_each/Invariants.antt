@@ -8,7 +8,10 @@ invariant-loop-i g l =
     let field = g.F.Valued in
     record {
       next : field.value l.factor ≡ field.ring.mul (field.value l.fn.first) (power field.ring (field.value l.fn.base) l.i);
-      done : (k : ℕ) → k < l.i → field.value (get_or l.values k field.zero) ≡ field.ring.mul (field.value (get_or l.fn.values k field.zero)) (field.ring.mul (field.value l.fn.first) (power field.ring (field.value l.fn.base) k));
+      done : (k : ℕ) → k < l.i
+          → field.value (get_or l.values k field.zero)
+          ≡ field.ring.mul (field.value (get_or l.fn.values k field.zero))
+          (field.ring.mul (field.value l.fn.first) (power field.ring (field.value l.fn.base) k));
       rest : (k : ℕ) → l.i ≤ k → get_or l.values k field.zero ≡ get_or l.fn.values k field.zero;
       count : l.products ≡ l.fn.products + l.i;
     }

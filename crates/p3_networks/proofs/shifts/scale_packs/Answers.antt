@@ -41,17 +41,24 @@ loop-i-preserved g c =
     let len : length c.scale_pack.new.part ≡ w = c.scale_pack.auto.part ∙ old_len in
     record {
       factors = λ k inside.
-          value_at field.value (λ x. ring.mul x (field.value c.exp_u64-step.result)) (lanes l.factors) (lanes c.scaled-factors.result) k field.zero c.scaled-factors.ensures.lanes
+          value_at field.value (λ x. ring.mul x (field.value c.exp_u64-step.result)) (lanes l.factors)
+          (lanes c.scaled-factors.result) k field.zero c.scaled-factors.ensures.lanes
           (g.met.P.PackedField.width_law c.scaled-factors.result ∙ sym (g.met.P.PackedField.width_law l.factors)) (subst (λ n. k < n) (sym wide) inside)
           ∙ ap₂ ring.mul (l.invariant.factors k inside) c.exp_u64-step.ensures
           ∙ factor-more ring first base i w k;
       values = rows-more field.zero w _ start l.values c.scale_pack.new.part i _ m room len
           (λ k inside.
-          let entry = ap field.value (part_at l.values (i * w) ((i * w + w) - i * w) k field.zero (subst (λ n. k < n) (sym m) inside) ∙ l.invariant.values.rest (i * w + k) (le-add_right (i * w) k)) in
-          lane_at ring.mul field.value field.zero c.scale_pack.new.part part (lanes l.factors) k (old_len ∙ sym wide) (subst (λ n. k < n) (sym old_len) inside) c.scale_pack.ensures.part
-          ∙ ap₂ ring.mul (entry ∙ same_entries field.value xs start (i * w + k) field.zero same (omega (arith, inside, room, size))) (l.invariant.factors k inside))
+          let entry =
+          ap field.value (part_at l.values (i * w) ((i * w + w) - i * w) k field.zero (subst (λ n. k < n) (sym m) inside)
+          ∙ l.invariant.values.rest (i * w + k) (le-add_right (i * w) k)) in
+          lane_at ring.mul field.value field.zero c.scale_pack.new.part part (lanes l.factors) k (old_len ∙ sym wide)
+          (subst (λ n. k < n) (sym old_len) inside) c.scale_pack.ensures.part
+          ∙ ap₂ ring.mul (entry ∙ same_entries field.value xs start (i * w + k) field.zero same
+          (omega (arith, inside, room, size))) (l.invariant.factors k inside))
           l.invariant.values;
-      count = turn_counted i w _ c.args.products.now l.products c.scale_pack.new.products (sym c.WIDTH-width.ensures) l.invariant.count c.scale_pack.ensures.count;
+      count =
+          turn_counted i w _ c.args.products.now l.products c.scale_pack.new.products (sym c.WIDTH-width.ensures)
+          l.invariant.count c.scale_pack.ensures.count;
     }
 
 pub returns-clause-values : goal.returns-clause-values
@@ -69,4 +76,6 @@ returns-clause-count g c =
     let w = c.WIDTH-width.result in
     let len = length c.args.values.now in
     let all = whole_packs len c.requires.whole.0 _ w c.requires.width c.WIDTH-width.ensures c.requires.whole.1 in
-    at_end (λ n. c.loop-i.products ≡ c.args.products.now + n * w) c.loop-i.i (len / w) c.loop-i.auto.i-end c.loop-i-test.false c.loop-i.invariant.count ∙ ap (λ n. c.args.products.now + n) (sym all)
+    at_end (λ n. c.loop-i.products ≡ c.args.products.now + n * w) c.loop-i.i (len / w) c.loop-i.auto.i-end
+    c.loop-i-test.false c.loop-i.invariant.count
+    ∙ ap (λ n. c.args.products.now + n) (sym all)

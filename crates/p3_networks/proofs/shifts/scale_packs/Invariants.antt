@@ -10,6 +10,8 @@ invariant-loop-i g l =
     let factor = λ (n : ℕ). field.ring.mul (field.value l.fn.first) (power field.ring (field.value l.fn.base) n) in
     record {
       factors : (k : ℕ) → k < l.width → field.value (get_or (g.P.PackedField.lanes l.factors) k field.zero) ≡ factor (l.i * l.width + k);
-      values : RowsDone field.zero l.width (λ i k y. field.value y ≡ field.ring.mul (field.value (get_or l.fn.values (i * l.width + k) field.zero)) (factor (i * l.width + k))) l.initial.values l.i l.values;
+      values : RowsDone field.zero l.width (λ i k y. field.value y
+          ≡ field.ring.mul (field.value (get_or l.fn.values (i * l.width + k) field.zero)) (factor (i * l.width + k)))
+          l.initial.values l.i l.values;
       count : l.products ≡ l.fn.products + l.i * l.width;
     }

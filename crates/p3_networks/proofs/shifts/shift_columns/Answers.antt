@@ -30,13 +30,22 @@ loop-i-preserved g c =
     let old_len = part_length l.values (i * w) w room in
     let len : length c.scale_by_powers.new.values ≡ w = c.scale_by_powers.auto.values ∙ old_len in
     record {
-      first = g.met.F.Field.mul_law _ _ _ c.mul-first.ensures ∙ ap (λ x. ring.mul x (field.value c.args.shift)) l.invariant.first ∙ sym (power-more ring (field.value c.args.shift) i);
-      base = g.met.F.Field.mul_law _ _ _ c.mul-base.ensures ∙ ap (λ x. ring.mul x (field.value c.args.step)) l.invariant.base ∙ sym (power-more ring (field.value c.args.step) i);
+      first =
+          g.met.F.Field.mul_law _ _ _ c.mul-first.ensures
+          ∙ ap (λ x. ring.mul x (field.value c.args.shift)) l.invariant.first
+          ∙ sym (power-more ring (field.value c.args.shift) i);
+      base =
+          g.met.F.Field.mul_law _ _ _ c.mul-base.ensures
+          ∙ ap (λ x. ring.mul x (field.value c.args.step)) l.invariant.base
+          ∙ sym (power-more ring (field.value c.args.step) i);
       values = rows-more field.zero w _ _ l.values c.scale_by_powers.new.values i _ m room len
           (λ k inside.
-          let entry = ap field.value (part_at l.values (i * w) ((i * w + w) - i * w) k field.zero (subst (λ n. k < n) (sym m) inside) ∙ l.invariant.values.rest (i * w + k) (le-add_right (i * w) k)) in
+          let entry =
+          ap field.value (part_at l.values (i * w) ((i * w + w) - i * w) k field.zero (subst (λ n. k < n) (sym m) inside)
+          ∙ l.invariant.values.rest (i * w + k) (le-add_right (i * w) k)) in
           c.scale_by_powers.ensures.values k (subst (λ n. k < n) (sym old_len) inside)
-          ∙ ap₂ ring.mul entry (ap₂ (λ a b. ring.mul a (power ring b k)) l.invariant.first l.invariant.base ∙ power_of_column ring (field.value c.args.shift) (field.value c.args.step) i k))
+          ∙ ap₂ ring.mul entry (ap₂ (λ a b. ring.mul a (power ring b k)) l.invariant.first l.invariant.base ∙
+          power_of_column ring (field.value c.args.shift) (field.value c.args.step) i k))
           l.invariant.values;
       count = turn_counted i w _ c.args.products.now l.products c.scale_by_powers.new.products old_len l.invariant.count c.scale_by_powers.ensures.count;
     }

@@ -11,15 +11,24 @@ use Rattle.p3_networks.proofs.Tables.FromStart.{enough_from_start, first_is_one,
 use Rattle.p3_networks.proofs.tiles.extending_network.Goals as goal
 
 pub spread_tiles-requires-clause-first : goal.spread_tiles-requires-clause-first
-spread_tiles-requires-clause-first g c = first_is_one g.F.Valued (λ (n : ℕ). g.F.Valued.value (g.F.TwoAdicField.generator n)) c.args.log_h c.args.twiddles.now c.requires.nonzero c.requires.twiddles
+spread_tiles-requires-clause-first g c =
+    first_is_one g.F.Valued (λ (n : ℕ). g.F.Valued.value (g.F.TwoAdicField.generator n)) c.args.log_h
+    c.args.twiddles.now c.requires.nonzero c.requires.twiddles
 
 pub spread_tiles-requires-clause-enough : goal.spread_tiles-requires-clause-enough
-spread_tiles-requires-clause-enough g c = enough_from_start g.F.Valued (λ (n : ℕ). g.F.Valued.value (g.F.TwoAdicField.generator n)) c.args.log_h c.args.twiddles.now c.requires.nonzero c.requires.twiddles
+spread_tiles-requires-clause-enough g c =
+    enough_from_start g.F.Valued (λ (n : ℕ). g.F.Valued.value (g.F.TwoAdicField.generator n)) c.args.log_h
+    c.args.twiddles.now c.requires.nonzero c.requires.twiddles
 
 pub layers_in_groups-requires-clause-in_table : goal.layers_in_groups-requires-clause-in_table
 layers_in_groups-requires-clause-in_table g c b inside =
-    let enough = enough_from_start g.F.Valued (λ (n : ℕ). g.F.Valued.value (g.F.TwoAdicField.generator n)) c.args.log_h c.args.twiddles.now c.requires.nonzero c.requires.twiddles in
-    (omega (arith, inside, enough), first_is_one g.F.Valued (λ (n : ℕ). g.F.Valued.value (g.F.TwoAdicField.generator n)) c.args.log_h c.args.twiddles.now c.requires.nonzero c.requires.twiddles)
+    let enough =
+    enough_from_start g.F.Valued (λ (n : ℕ). g.F.Valued.value (g.F.TwoAdicField.generator n)) c.args.log_h
+    c.args.twiddles.now c.requires.nonzero c.requires.twiddles in (
+      omega (arith, inside, enough),
+      first_is_one g.F.Valued (λ (n : ℕ). g.F.Valued.value (g.F.TwoAdicField.generator n)) c.args.log_h
+          c.args.twiddles.now c.requires.nonzero c.requires.twiddles,
+    )
 
 pub returns-clause-values : goal.returns-clause-values
 returns-clause-values g c r j below inside =
@@ -32,7 +41,9 @@ returns-clause-values g c r j below inside =
     let roots = g.met.F.TwoAdicField.roots_law in
     let fewer : 2 ^ m ≤ 2 ^ k = let less : m ≤ k = omega arith in pow-le-pow_right {n = 2} (lit≤ tt) less in
     let added : a ≤ k = omega (arith, c.requires.added, c.requires.below) in
-    let row = λ (u q : ℕ). field.ring.mul (field.value (get_or c.args.coefficients.rows.now (rev m q * w + u) field.zero)) (field.value (get_or c.args.coefficients.weights.now (rev m q) field.zero)) in
+    let row =
+    λ (u q : ℕ). field.ring.mul (field.value (get_or c.args.coefficients.rows.now (rev m q * w + u) field.zero))
+    (field.value (get_or c.args.coefficients.weights.now (rev m q) field.zero)) in
     let column = λ (u q : ℕ). first_of field.ring (2 ^ m) (row u) q in
     let entry = λ (b : ℕ). field.value (get_or c.args.twiddles.now b field.zero) in
     let cells = twisted_cells field.ring roots k w column entry in
@@ -42,9 +53,12 @@ returns-clause-values g c r j below inside =
     let root = power field.ring (power field.ring (gen k) (rev m q)) t in
     twisted_cells_of_zeros field.ring roots k w column entry a added (λ v n after. first_behind field.ring (2 ^ m) (row v) n after) q t u copy column_is
     ∙ ap (λ x. field.ring.mul x root) (first_inside field.ring (2 ^ m) (row u) (rev m q) (rev-lt m q)
-    ∙ ap (λ n. field.ring.mul (field.value (get_or c.args.coefficients.rows.now (n * w + u) field.zero)) (field.value (get_or c.args.coefficients.weights.now n field.zero))) (rev-rev m q among))
-    ∙ field.ring.mul_assoc (field.value (get_or c.args.coefficients.rows.now (q * w + u) field.zero)) (field.value (get_or c.args.coefficients.weights.now q field.zero)) root
-    ∙ ap (λ x. field.ring.mul (field.value (get_or c.args.coefficients.rows.now (q * w + u) field.zero)) (field.ring.mul (field.value (get_or c.args.coefficients.weights.now q field.zero)) x))
+    ∙ ap (λ n. field.ring.mul (field.value (get_or c.args.coefficients.rows.now (n * w + u) field.zero))
+    (field.value (get_or c.args.coefficients.weights.now n field.zero))) (rev-rev m q among))
+    ∙ field.ring.mul_assoc (field.value (get_or c.args.coefficients.rows.now (q * w + u) field.zero))
+    (field.value (get_or c.args.coefficients.weights.now q field.zero)) root
+    ∙ ap (λ x. field.ring.mul (field.value (get_or c.args.coefficients.rows.now (q * w + u) field.zero))
+    (field.ring.mul (field.value (get_or c.args.coefficients.weights.now q field.zero)) x))
     (sym (spread_root field gen k a c.args.twiddles.now added c.requires.nonzero c.requires.twiddles q t among copy))) in
     let none : c.args.log_rows ≡ c.args.log_rows + 0 = omega arith in
     let all : c.args.log_rows + (k - c.args.log_rows) ≡ k = omega (arith, c.requires.below) in

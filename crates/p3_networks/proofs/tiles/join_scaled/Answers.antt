@@ -8,7 +8,8 @@ returns-clause-near g c j inside =
     let times = λ (x : field.Element). field.ring.mul x (field.value c.args.scale) in
     let sums = c.meet_rows.new.row_1 in
     let len : length sums ≡ length c.args.low.now = c.meet_rows.auto.row_1 in
-    value_at field.value times sums c.scale_slice_in_place.new.values j field.zero c.scale_slice_in_place.ensures.values c.scale_slice_in_place.auto.values (omega (arith, inside, len))
+    value_at field.value times sums c.scale_slice_in_place.new.values j field.zero c.scale_slice_in_place.ensures.values
+    c.scale_slice_in_place.auto.values (omega (arith, inside, len))
     ∙ ap times (c.meet_rows.ensures.near j inside)
 
 pub returns-clause-far : goal.returns-clause-far

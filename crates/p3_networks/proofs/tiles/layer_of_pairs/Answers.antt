@@ -19,8 +19,10 @@ returns-clause-cells g c =
     let near = λ (b : ℕ). meet_near (entry b) in
     let far = λ (b : ℕ). meet_far (entry b) in
     let cell = λ (xs : List g.row.F.Denot) (n : ℕ). field.value (get_or xs n field.zero) in
-    let size : length (take (from + 32 - from) (drop from all)) ≡ from + 32 - from = part_size all from (from + 32 - from) (omega (arith, c.requires.chunk.enough)) in
-    let twiddle : (b : ℕ) → b < 32 → cell (take (from + 32 - from) (drop from all)) b ≡ entry (from + b) = λ b inside. ap field.value (part_at all from (from + 32 - from) b field.zero (omega (arith, inside))) in
+    let size : length (take (from + 32 - from) (drop from all)) ≡ from + 32 - from =
+    part_size all from (from + 32 - from) (omega (arith, c.requires.chunk.enough)) in
+    let twiddle : (b : ℕ) → b < 32 → cell (take (from + 32 - from) (drop from all)) b ≡ entry (from + b) =
+    λ b inside. ap field.value (part_at all from (from + 32 - from) b field.zero (omega (arith, inside))) in
     layer_does field.value field.zero 1 6 number near far g.D.NetworkDecimation.order 0 x y
     (λ k before after layers room holds.
     chunk_taken field.value field.zero near far
@@ -29,18 +31,23 @@ returns-clause-cells g c =
       near_cell = λ i one.
           let first : b * 2 + i ≡ 2 * b = omega (arith, one) in
           let second : 2 * b + 1 ≡ b * 2 + (1 + i) = omega (arith, one) in
-          ap (cell y) first ∙ c.on_pairs.ensures.pairs.near_cell b (omega (arith, inside, size)) ∙ ap (λ t. meet_near t (cell x (2 * b)) (cell x (2 * b + 1))) (twiddle b inside) ∙ ap₂ (near (from + b)) (ap (cell x) (sym first)) (ap (cell x) second);
+          ap (cell y) first ∙ c.on_pairs.ensures.pairs.near_cell b (omega (arith, inside, size))
+          ∙ ap (λ t. meet_near t (cell x (2 * b)) (cell x (2 * b + 1))) (twiddle b inside)
+          ∙ ap₂ (near (from + b)) (ap (cell x) (sym first)) (ap (cell x) second);
       far_cell = λ i one.
           let first : b * 2 + i ≡ 2 * b = omega (arith, one) in
           let second : 2 * b + 1 ≡ b * 2 + (1 + i) = omega (arith, one) in
-          ap (cell y) (sym second) ∙ c.on_pairs.ensures.pairs.far_cell b (omega (arith, inside, size)) ∙ ap (λ t. meet_far t (cell x (2 * b)) (cell x (2 * b + 1))) (twiddle b inside) ∙ ap₂ (far (from + b)) (ap (cell x) (sym first)) (ap (cell x) second);
+          ap (cell y) (sym second) ∙ c.on_pairs.ensures.pairs.far_cell b (omega (arith, inside, size))
+          ∙ ap (λ t. meet_far t (cell x (2 * b)) (cell x (2 * b + 1))) (twiddle b inside)
+          ∙ ap₂ (far (from + b)) (ap (cell x) (sym first)) (ap (cell x) second);
     })
     holds)
 
 pub returns-clause-cost : goal.returns-clause-cost
 returns-clause-cost g c =
     let from = c.args.number * 32 in
-    let made : length (take (from + 32 - from) (drop from c.args.twiddles.now)) ≡ from + 32 - from = part_size c.args.twiddles.now from (from + 32 - from) (omega (arith, c.requires.chunk.enough)) in
+    let made : length (take (from + 32 - from) (drop from c.args.twiddles.now)) ≡ from + 32 - from =
+    part_size c.args.twiddles.now from (from + 32 - from) (omega (arith, c.requires.chunk.enough)) in
     let whole = ap (λ n. g.D.Decimation.cost * n) c.requires.chunk.size in
     let least : 1 * 64 ≤ g.D.Decimation.cost * 64 = mul-le-mul_right 64 g.met.D.NetworkDecimation.cost_law in
     record { grows = omega (arith, c.on_pairs.ensures.cost.grows); cost = omega (arith, c.on_pairs.ensures.cost.cost, made, whole, least) }

@@ -10,7 +10,8 @@ invariant-loop-done g l =
     let entry = λ (b : ℕ). field.value (get_or l.fn.twiddles b field.zero) in
     record {
       cells : TakesCells field.value field.value field.zero order l.fn.width l.fn.top l.fn.number
-          (λ b. g.D.Decimation.near field.Element field.ring field.value l.fn.decimation (entry b)) (λ b. g.D.Decimation.far field.Element field.ring field.value l.fn.decimation (entry b))
+          (λ b. g.D.Decimation.near field.Element field.ring field.value l.fn.decimation (entry b))
+          (λ b. g.D.Decimation.far field.Element field.ring field.value l.fn.decimation (entry b))
           (cells_of order l.fn.from l.fn.top 0) (cells_of order l.fn.from l.fn.top l.done) l.fn.values l.values;
       cost : RisesAtMost (g.D.Decimation.cost * (l.done * length l.fn.values)) (2 * l.fn.products) (2 * l.products);
     }

@@ -31,8 +31,15 @@ pub on_each_chunk-requires-clause-accepts : goal.on_each_chunk-requires-clause-a
 on_each_chunk-requires-clause-accepts g c n below =
     let digits = chunk_digits c.args.top c.args.number c.requires.chunk.fits_u64 in
     let sizes = tile_sizes c.args.top 6 1 (length c.args.values.now) digits c.requires.height c.requires.chunk.size in
-    let rows = tile_rows_of_chunk _ _ _ _ _ _ c.args.number n sizes below in
-    (record { width = omega arith; fits_u64 = omega (arith, rows, c.requires.chunk.fits_u64); enough = omega (arith, rows, c.requires.chunk.enough); size = sizes.size_is }, c.requires.first)
+    let rows = tile_rows_of_chunk _ _ _ _ _ _ c.args.number n sizes below in (
+      record {
+        width = omega arith;
+        fits_u64 = omega (arith, rows, c.requires.chunk.fits_u64);
+        enough = omega (arith, rows, c.requires.chunk.enough);
+        size = sizes.size_is;
+      },
+      c.requires.first,
+    )
 
 pub returns : goal.returns
 returns g c =
@@ -47,10 +54,18 @@ returns g c =
     record {
       cells = record {
         taken = λ k cells layers room holds.
-            cells_of_chunks field.zero size field.value field.value (cells (cells_of order 0 6 0)) (cells (cells_of order 0 6 6)) (number * len) chunks (λ n s. (number * chunks + n) * s)
+            cells_of_chunks field.zero size field.value field.value (cells (cells_of order 0 6 0))
+            (cells (cells_of order 0 6 6)) (number * len) chunks (λ n s. (number * chunks + n) * s)
             c.args.values.now c.on_each_chunk.new.values (tile_some _ _ _ _ _ _ sizes (omega arith)) sizes.whole c.on_each_chunk.auto.values
-            (λ n. (let spread : (number * chunks + n) * size ≡ number * (chunks * size) + n * size = omega arith in spread) ∙ ap (λ m. number * m + n * size) (sym sizes.whole))
-            (λ n below held. (c.on_each_chunk.ensures.chunks n below).taken k cells layers (let rows = tile_rows_of_chunk _ _ _ _ _ _ number n sizes below in omega (arith, rows, room)) held) holds;
+            (λ n. (let spread : (number * chunks + n) * size ≡ number * (chunks * size) + n * size = omega arith in
+            spread)
+            ∙ ap (λ m. number * m + n * size) (sym sizes.whole))
+            (λ n below held. (c.on_each_chunk.ensures.chunks n below).taken k cells layers
+            (let rows = tile_rows_of_chunk _ _ _ _ _ _ number n sizes below in omega (arith, rows, room)) held)
+            holds;
       };
-      cost = record { grows = omega (arith, c.on_each_chunk.ensures.grows); cost = omega (arith, c.on_each_chunk.ensures.cost, tiles_cost _ _ _ _ _ _ (g.D.Decimation.cost * 6) sizes) };
+      cost = record {
+        grows = omega (arith, c.on_each_chunk.ensures.grows);
+        cost = omega (arith, c.on_each_chunk.ensures.cost, tiles_cost _ _ _ _ _ _ (g.D.Decimation.cost * 6) sizes);
+      };
     }

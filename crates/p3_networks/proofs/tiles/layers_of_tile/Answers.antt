@@ -9,7 +9,9 @@ returns-in-LargestFirst-clause-cells g c =
     let near = λ (b : ℕ). g.D.Decimation.near field.Element field.ring field.value c.args.decimation (entry b) in
     let far = λ (b : ℕ). g.D.Decimation.far field.Element field.ring field.value c.args.decimation (entry b) in
     rw c.if-width-eq1.true
-    (upper_then_lower field.value field.zero 1 c.args.top c.args.number near far g.D.NetworkDecimation.order (sym c.order.ensures ∙ c.in-LargestFirst.is) 0 6 c.args.top c.args.values.now c.layers_of_chunk.new.values c.layers_of_short_chunks.new.values
+    (upper_then_lower field.value field.zero 1 c.args.top c.args.number near far g.D.NetworkDecimation.order
+    (sym c.order.ensures ∙ c.in-LargestFirst.is) 0 6 c.args.top c.args.values.now c.layers_of_chunk.new.values
+    c.layers_of_short_chunks.new.values
     (omega arith) c.if-top-ge-SHORT_LAYERS.true c.layers_of_chunk.auto.values c.layers_of_chunk.ensures.cells c.layers_of_short_chunks.ensures.cells)
 
 pub returns-in-SmallestFirst-clause-cells : goal.returns-in-SmallestFirst-clause-cells
@@ -21,5 +23,6 @@ returns-in-SmallestFirst-clause-cells g c =
     let near = λ (b : ℕ). g.D.Decimation.near field.Element field.ring field.value c.args.decimation (entry b) in
     let far = λ (b : ℕ). g.D.Decimation.far field.Element field.ring field.value c.args.decimation (entry b) in
     rw c.if-width-eq1.true
-    (lower_then_upper field.value field.zero 1 c.args.top c.args.number near far g.D.NetworkDecimation.order (sym c.order.ensures ∙ c.in-SmallestFirst.is) 0 6 c.args.top c.args.values.now short.new.values whole.new.values
+    (lower_then_upper field.value field.zero 1 c.args.top c.args.number near far g.D.NetworkDecimation.order
+    (sym c.order.ensures ∙ c.in-SmallestFirst.is) 0 6 c.args.top c.args.values.now short.new.values whole.new.values
     (omega arith) c.if-top-ge-SHORT_LAYERS.true short.auto.values short.ensures.cells whole.ensures.cells)

@@ -11,7 +11,9 @@ returns-clause-cells g c k cells layers room holds i inside =
     let first = c.args.number * length c.args.values.now in
     let len : length c.scale_slice_in_place.new.values ≡ length middle = c.scale_slice_in_place.auto.values in
     let plain : 0 + (c.args.top - 0) ≡ c.args.top = omega arith in
-    let held = subst (λ (e : ℕ). HoldsCells field.value field.zero first (cells e) middle) plain (c.layers_of_tile.ensures.cells.taken k cells layers room holds) in
+    let held =
+    subst (λ (e : ℕ). HoldsCells field.value field.zero first (cells e) middle) plain
+    (c.layers_of_tile.ensures.cells.taken k cells layers room holds) in
     value_at field.value times middle c.scale_slice_in_place.new.values i field.zero c.scale_slice_in_place.ensures.values len (omega (arith, inside, len))
     ∙ ap times (held i (omega (arith, inside, len)))
 

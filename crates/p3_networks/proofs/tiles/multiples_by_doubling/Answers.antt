@@ -1,4 +1,5 @@
-use Rattle.std.proofs.Common.{◌≡◌, ℕ, ◌+◌, ◌-◌, ◌*◌, ◌<◌, ◌≤◌, ◌++◌, min, length, get_or, List, sym, ap, ap₂, ◌∙◌, arith, ⊎_elim, Fits-le, add-mul, le-add_right, le_trans, mul-le-mul_right}
+use Rattle.std.proofs.Common.{◌≡◌, ℕ, ◌+◌, ◌-◌, ◌*◌, ◌<◌, ◌≤◌, ◌++◌, min, length, get_or, List, sym, ap, ap₂, ◌∙◌}
+use Rattle.std.proofs.Common.{arith, ⊎_elim, Fits-le, add-mul, le-add_right, le_trans, mul-le-mul_right}
 use borrow.Rule.Slice.PartMut.{post_of}
 use Rattle.std.proofs.lemmas.Bool.{cases_lt}
 use Rattle.p3_field.specs.Ring.{power}
@@ -23,11 +24,16 @@ risen : (a b after done more w : ℕ) → b ≤ a + done * w → after ≤ b + m
 risen a b after done more w before turn = let spread : (done + more) * w ≡ done * w + more * w = omega arith in omega (arith, before, turn, spread)
 
 -- rows of multiples behind the first ones, which are those times a power
-multiples_more : {F : Type 0} (field : FieldMembers F) (w done more : ℕ) (entry : ℕ → field.Element) (first step factor : field.Element) (old new : List F) → more ≤ done → factor ≡ power field.ring step done
+multiples_more : {F : Type 0} (field : FieldMembers F) (w done more : ℕ) (entry : ℕ → field.Element)
+    (first step factor : field.Element) (old new : List F)
+    → more ≤ done → factor ≡ power field.ring step done
     → ((n : ℕ) → n < done * w → get_or new n field.zero ≡ get_or old n field.zero)
     → ((n : ℕ) → n < more * w → field.value (get_or new (done * w + n) field.zero) ≡ field.ring.mul (field.value (get_or old n field.zero)) factor)
-    → ((t j : ℕ) → t < done → j < w → field.value (get_or old (t * w + j) field.zero) ≡ field.ring.mul (entry j) (field.ring.mul first (power field.ring step t)))
-    → (t j : ℕ) → t < done + more → j < w → field.value (get_or new (t * w + j) field.zero) ≡ field.ring.mul (entry j) (field.ring.mul first (power field.ring step t))
+    → ((t j : ℕ) → t < done → j < w
+    → field.value (get_or old (t * w + j) field.zero)
+    ≡ field.ring.mul (entry j) (field.ring.mul first (power field.ring step t)))
+    → (t j : ℕ) → t < done + more → j < w → field.value (get_or new (t * w + j) field.zero)
+    ≡ field.ring.mul (entry j) (field.ring.mul first (power field.ring step t))
 multiples_more field w done more entry first step factor old new few factor_is kept scaled so_far t j below inside =
     ⊎_elim
     (λ earlier. ap field.value (kept (t * w + j) (row_below t j w done earlier inside)) ∙ so_far t j earlier inside)
@@ -35,12 +41,15 @@ multiples_more field w done more entry first step factor old new few factor_is k
     let ring = field.ring in
     let u : ℕ = t - done in
     let is : u + done ≡ t = omega (arith, later) in
-    let place : t * w + j ≡ done * w + (u * w + j) = ap (λ n. n * w + j) (sym is) ∙ (let spread : (u + done) * w + j ≡ done * w + (u * w + j) = omega arith in spread) in
+    let place : t * w + j ≡ done * w + (u * w + j) =
+    ap (λ n. n * w + j) (sym is)
+    ∙ (let spread : (u + done) * w + j ≡ done * w + (u * w + j) = omega arith in spread) in
     ap (λ i. field.value (get_or new i field.zero)) place
     ∙ scaled (u * w + j) (row_below u j w more (omega (arith, below, later)) inside)
     ∙ ap₂ ring.mul (so_far u j (omega (arith, below, later, few)) inside) factor_is
     ∙ ring.mul_assoc (entry j) (ring.mul first (power ring step u)) (power ring step done)
-    ∙ ap (ring.mul (entry j)) (ring.mul_assoc first (power ring step u) (power ring step done) ∙ ap (ring.mul first) (sym (power-add ring step u done) ∙ ap (power ring step) is)))
+    ∙ ap (ring.mul (entry j)) (ring.mul_assoc first (power ring step u) (power ring step done) ∙ ap (ring.mul first)
+    (sym (power-add ring step u done) ∙ ap (power ring step) is)))
     (cases_lt t done)
 
 pub loop-done-init : goal.loop-done-init
@@ -61,9 +70,13 @@ loop-done-init g c =
           let place : t * length row + j ≡ j = omega (arith, ap (λ n. n * length row) first) in
           ap (λ i. field.value (get_or (head ++ rest) i field.zero)) place
           ∙ ap field.value (in_first head rest j field.zero (omega (arith, inside, size)))
-          ∙ value_at field.value times c.copy_from_slice.new.self head j field.zero c.scale_slice_in_place.ensures.values c.scale_slice_in_place.auto.values (omega (arith, inside, ap length copied))
+          ∙ value_at field.value times c.copy_from_slice.new.self head j field.zero
+          c.scale_slice_in_place.ensures.values c.scale_slice_in_place.auto.values
+          (omega (arith, inside, ap length copied))
           ∙ ap₂ field.ring.mul (ap (λ xs. field.value (get_or xs j field.zero)) copied)
-          (sym (ap (field.ring.mul (field.value c.args.first)) (ap (power field.ring (field.value c.args.step)) first ∙ power-zero field.ring (field.value c.args.step)) ∙ field.ring.mul_one (field.value c.args.first)));
+          (sym (ap (field.ring.mul (field.value c.args.first)) (ap (power field.ring (field.value c.args.step)) first
+          ∙ power-zero field.ring (field.value c.args.step))
+          ∙ field.ring.mul_one (field.value c.args.first)));
       grows = omega (arith, c.scale_slice_in_place.ensures.count);
       cost = omega (arith, c.scale_slice_in_place.ensures.count, ap length copied);
     }
@@ -110,7 +123,9 @@ loop-done-preserved g c =
       factor = λ left.
           g.met.F.Field.mul_law _ _ _ c.mul-factor.ensures ∙ ap₂ field.ring.mul power_is power_is
           ∙ sym (power-add field.ring step done done) ∙ ap (λ n. power field.ring step (done + n)) (sym (it.1.1.1 left));
-      values = multiples_more field w done more (λ j. field.value (get_or c.args.row.now j field.zero)) (field.value c.args.first) step _ c.loop-done.values c.scale_behind.new.values
+      values =
+          multiples_more field w done more (λ j. field.value (get_or c.args.row.now j field.zero))
+          (field.value c.args.first) step _ c.loop-done.values c.scale_behind.new.values
           it.1.0 power_is c.scale_behind.ensures.kept c.scale_behind.ensures.scaled c.loop-done.invariant.values;
       grows = le_trans c.loop-done.invariant.grows c.scale_behind.ensures.grows;
       cost = risen _ _ _ done more w c.loop-done.invariant.cost c.scale_behind.ensures.cost;

@@ -9,7 +9,9 @@ invariant-loop-t g l =
     record {
       factor : field.value l.factor ≡ field.ring.mul (field.value l.fn.first) (power field.ring (field.value l.fn.step) l.t);
       values : RowsDone field.zero l.width
-          (λ t j y. field.value y ≡ field.ring.mul (field.value (get_or l.fn.row j field.zero)) (field.ring.mul (field.value l.fn.first) (power field.ring (field.value l.fn.step) t)))
+          (λ t j y. field.value y
+          ≡ field.ring.mul (field.value (get_or l.fn.row j field.zero))
+          (field.ring.mul (field.value l.fn.first) (power field.ring (field.value l.fn.step) t)))
           l.fn.values l.t l.values;
       count : l.products ≡ l.fn.products + l.t * l.width;
     }

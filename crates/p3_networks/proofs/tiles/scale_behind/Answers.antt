@@ -12,7 +12,9 @@ returns-then-eq-clause-scaled g c n below =
     let from = c.copy_from_slice.new.self in
     let size : length first ≡ c.args.size = split.front_len in
     let long : length from ≡ c.args.count = omega (arith, c.copy_from_slice.ensures.len, split.back_len, c.requires.room, c.copy_from_slice.auto.self) in
-    let one : field.value c.args.factor ≡ field.ring.one = (g.met.F.Field.eq_law _ _).0 (sym c.eq.ensures ∙ c.if-eq.true) ∙ ap field.value c.ONE.ensures ∙ g.met.F.Field.one_law in
+    let one : field.value c.args.factor ≡ field.ring.one =
+    (g.met.F.Field.eq_law _ _).0 (sym c.eq.ensures ∙ c.if-eq.true) ∙ ap field.value c.ONE.ensures
+    ∙ g.met.F.Field.one_law in
     ap field.value (in_second first _ c.args.size n field.zero size ∙ in_first from _ n field.zero (omega (arith, below, long)))
     ∙ ap (λ xs. field.value (get_or xs n field.zero)) c.copy_from_slice.ensures.after
     ∙ ap field.value (part_at first 0 (c.args.count - 0) n field.zero (omega (arith, below))

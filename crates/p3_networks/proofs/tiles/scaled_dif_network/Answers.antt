@@ -33,8 +33,11 @@ layers_in_groups-requires-clause-in_table g c b inside =
     let k = c.args.log_h in
     let root = inverse_root field.ring (λ (n : ℕ). field.value (g.F.TwoAdicField.generator n)) 1 in
     let size = c.requires.twiddles.size (k - 1) (omega (arith, c.requires.nonzero)) in
-    let d = two_halves k (λ e. absurd (omega (arith, e, c.requires.nonzero))) in
-    (omega (arith, inside, size, d), c.requires.twiddles.entries 0 0 (omega (arith, c.requires.nonzero)) (pow_pos 0) ∙ ap (power field.ring root) (rev_of_zero 0) ∙ power-zero field.ring root)
+    let d = two_halves k (λ e. absurd (omega (arith, e, c.requires.nonzero))) in (
+      omega (arith, inside, size, d),
+      c.requires.twiddles.entries 0 0 (omega (arith, c.requires.nonzero)) (pow_pos 0)
+          ∙ ap (power field.ring root) (rev_of_zero 0) ∙ power-zero field.ring root,
+    )
 
 pub returns-clause-values : goal.returns-clause-values
 returns-clause-values g c r j below inside =
@@ -52,15 +55,19 @@ returns-clause-values g c r j below inside =
     let start : HoldsCells field.value field.zero 0 (cells 0) c.args.values.now = λ i p.
     twisted_cells_start field.ring roots k w column entry c.requires.width (λ n. field.value (get_or c.args.values.now n field.zero))
     (λ q u small. ap (λ n. field.value (get_or c.args.values.now (n * w + u) field.zero)) (rev-rev k q small)) i (omega (arith, p, c.requires.size)) in
-    let middle : HoldsCells field.value field.zero 0 (scaled c.args.log_rows) c.scaled_dif_tiles.new.values = c.scaled_dif_tiles.ensures.cells cells layers start in
+    let middle : HoldsCells field.value field.zero 0 (scaled c.args.log_rows) c.scaled_dif_tiles.new.values =
+    c.scaled_dif_tiles.ensures.cells cells layers start in
     let none : c.args.log_rows ≡ c.args.log_rows + 0 = omega arith in
     let all : c.args.log_rows + (k - c.args.log_rows) ≡ k = omega (arith, c.requires.below) in
     let done = subst (λ (e : ℕ). HoldsCells field.value field.zero 0 (scaled e) c.layers_in_groups.new.values) all
-    (c.layers_in_groups.ensures.cells scaled (scaled_layers field.ring entry scale k w cells layers) (subst (λ (e : ℕ). HoldsCells field.value field.zero 0 (scaled e) c.scaled_dif_tiles.new.values) none middle)) in
+    (c.layers_in_groups.ensures.cells scaled (scaled_layers field.ring entry scale k w cells layers)
+    (subst (λ (e : ℕ). HoldsCells field.value field.zero 0 (scaled e) c.scaled_dif_tiles.new.values) none middle))
+    in
     let root = power field.ring (backward_root field g.F.TwoAdicField.generator k) r in
     done (r * w + j) (omega (arith, row_below r j w (2 ^ k) below inside, c.requires.size, c.layers_in_groups.auto.values, c.scaled_dif_tiles.auto.values))
     ∙ ap (λ y. field.ring.mul y scale) (twisted_cells_end field.ring roots k w column entry r j below inside)
-    ∙ field.ring.mul_comm _ _ ∙ sym (poly-times field.ring (2 ^ k) scale (column j) root) ∙ poly_same field.ring (2 ^ k) _ _ root (λ q small. field.ring.mul_comm scale (column j q))
+    ∙ field.ring.mul_comm _ _ ∙ sym (poly-times field.ring (2 ^ k) scale (column j) root) ∙ poly_same field.ring (2 ^ k)
+    _ _ root (λ q small. field.ring.mul_comm scale (column j q))
 
 pub returns-clause-cost : goal.returns-clause-cost
 returns-clause-cost g c =
@@ -70,8 +77,11 @@ returns-clause-cost g c =
     let back : c.args.log_h - (c.args.log_h - r) ≡ r = omega (arith, c.requires.below) in
     let spread : (r + 2) * len ≡ r * len + 2 * len = omega arith in
     omega (arith, c.scaled_dif_tiles.ensures.cost.cost, spread, ap (λ n. n * len) back) in
-    let each : (c.args.log_h - r) * length c.scaled_dif_tiles.new.values ≡ (c.args.log_h - r) * len = ap (λ n. (c.args.log_h - r) * n) c.scaled_dif_tiles.auto.values in
-    let second : 2 * c.layers_in_groups.new.products ≤ 2 * c.scaled_dif_tiles.new.products + (c.args.log_h - r) * len = omega (arith, c.layers_in_groups.ensures.cost, each) in
+    let each : (c.args.log_h - r) * length c.scaled_dif_tiles.new.values ≡ (c.args.log_h - r) * len =
+    ap (λ n. (c.args.log_h - r) * n) c.scaled_dif_tiles.auto.values in
+    let second : 2 * c.layers_in_groups.new.products ≤ 2 * c.scaled_dif_tiles.new.products + (c.args.log_h - r) * len =
+    omega (arith, c.layers_in_groups.ensures.cost, each) in
     let all = counted_twice c.args.log_h c.args.width len (c.args.products.now + len) c.layers_in_groups.new.products c.requires.size
-    (layers_joined (c.args.log_h - r) c.args.log_h len (c.args.products.now + len) c.scaled_dif_tiles.new.products c.layers_in_groups.new.products (omega arith) first second) in
+    (layers_joined (c.args.log_h - r) c.args.log_h len (c.args.products.now + len) c.scaled_dif_tiles.new.products
+    c.layers_in_groups.new.products (omega arith) first second) in
     omega (arith, all, c.requires.size)

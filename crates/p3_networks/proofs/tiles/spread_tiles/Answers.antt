@@ -7,7 +7,9 @@ use Rattle.p3_networks.proofs.Layers.Shifts.{one_shifted}
 use Rattle.p3_networks.proofs.tiles.spread_tiles.Goals as goal
 
 pub on_each_chunk-requires-clause-whole : goal.on_each_chunk-requires-clause-whole
-on_each_chunk-requires-clause-whole g c = (tile_sizes c.args.log_h c.args.log_rows c.args.width (length c.args.values.now) c.requires.fits_u64 c.requires.below c.requires.size).whole
+on_each_chunk-requires-clause-whole g c =
+    (tile_sizes c.args.log_h c.args.log_rows c.args.width (length c.args.values.now) c.requires.fits_u64
+    c.requires.below c.requires.size).whole
 
 pub on_each_chunk-requires-clause-accepts : goal.on_each_chunk-requires-clause-accepts
 on_each_chunk-requires-clause-accepts g c n below =
@@ -16,7 +18,14 @@ on_each_chunk-requires-clause-accepts g c n below =
     let room = spread_room _ _ c.args.coefficients.added_bits _ _ _ _ n c.requires.added c.requires.below sizes below in
     let cells = mul-le-mul_right c.args.width room in
     let rows = tile_rows _ _ _ _ _ _ n sizes below in
-    let chunk : IsChunk c.args.width c.args.log_rows n (length c.args.twiddles.now) (length c.args.values.now / one_shifted (c.args.log_h - c.args.log_rows)) = record { width = c.requires.width; fits_u64 = small; enough = omega (arith, rows, c.requires.enough); size = sizes.size_is } in
+    let chunk : IsChunk c.args.width c.args.log_rows n (length c.args.twiddles.now)
+    (length c.args.values.now / one_shifted (c.args.log_h - c.args.log_rows)) =
+    record {
+      width = c.requires.width;
+      fits_u64 = small;
+      enough = omega (arith, rows, c.requires.enough);
+      size = sizes.size_is;
+    } in
     (chunk, (c.requires.added, (omega (arith, cells, c.requires.rows), (omega (arith, room, c.requires.weights), c.requires.first))))
 
 pub returns : goal.returns
@@ -28,11 +37,14 @@ returns g c =
     let tiles = one_shifted (c.args.log_h - c.args.log_rows) in
     record {
       cells = λ cells layers are.
-          cells_of_chunks field.zero (length before / tiles) field.value field.value (λ i. field.value (get_or before i field.zero)) (cells c.args.log_rows) 0 tiles (λ n s. n * s) before c.on_each_chunk.new.values
+          cells_of_chunks field.zero (length before / tiles) field.value field.value
+          (λ i. field.value (get_or before i field.zero)) (cells c.args.log_rows) 0 tiles (λ n s. n * s) before
+          c.on_each_chunk.new.values
           (tile_some _ _ _ _ _ _ sizes c.requires.width) sizes.whole c.on_each_chunk.auto.values (λ n. omega arith)
           (λ n below held.
           let room = spread_room _ _ c.args.coefficients.added_bits _ _ _ _ n c.requires.added c.requires.below sizes below in
-          c.on_each_chunk.ensures.chunks n below c.args.log_h cells layers (tile_rows _ _ _ _ _ _ n sizes below) (λ q t j inside. are q t j (omega (arith, inside, room))))
+          c.on_each_chunk.ensures.chunks n below c.args.log_h cells layers (tile_rows _ _ _ _ _ _ n sizes below)
+          (λ q t j inside. are q t j (omega (arith, inside, room))))
           (λ i inside. ap (λ n. field.value (get_or before n field.zero)) (omega arith));
       grows = c.on_each_chunk.ensures.grows;
       cost = omega (arith, c.on_each_chunk.ensures.cost, tiles_cost _ _ _ _ _ _ (layers_left + 2) sizes);

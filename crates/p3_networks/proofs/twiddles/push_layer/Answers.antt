@@ -38,7 +38,8 @@ loop-l-init g c =
           let none : e ≡ 0 = omega (arith, below) in
           let last : length old + e ≡ length old = omega (arith, none) in
           ap (λ xs. field.value (get_or xs (length old + e) field.zero)) now ∙ ap field.value (get_or_push old first field.zero (length old + e) (sym last))
-          ∙ sym (ap (λ n. field.ring.mul (field.value first) (power field.ring (field.value c.args.base) n)) (ap (layer_place c.args.reversed c.args.bits) none ∙ place_of_none c.args.reversed c.args.bits)
+          ∙ sym (ap (λ n. field.ring.mul (field.value first) (power field.ring (field.value c.args.base) n))
+          (ap (layer_place c.args.reversed c.args.bits) none ∙ place_of_none c.args.reversed c.args.bits)
           ∙ ap (field.ring.mul (field.value first)) (power-zero field.ring (field.value c.args.base)) ∙ field.ring.mul_one (field.value first));
     }
 
@@ -54,26 +55,37 @@ loop-l-preserved g c =
     let size = c.loop-l.invariant.size in
     let entry = λ (b : ℕ). field.value (get_or now (length old + b) field.zero) in
     let step : c.if-reversed.exp_power_of_2 ≡ layer_step c.args.reversed n l =
-    elim c.if-reversed.branch [ then-reversed w ↦ w.exp_power_of_2-is ∙ ap (λ b. layer_step b n l) (sym w.if-reversed.true) | else-reversed w ↦ w.exp_power_of_2-is ∙ ap (λ b. layer_step b n l) (sym w.if-reversed.false) ] in
+    elim c.if-reversed.branch [
+      | then-reversed w ↦ w.exp_power_of_2-is ∙ ap (λ b. layer_step b n l) (sym w.if-reversed.true)
+      | else-reversed w ↦ w.exp_power_of_2-is ∙ ap (λ b. layer_step b n l) (sym w.if-reversed.false)
+    ] in
     record {
       size = doubled (length old) (length before) l size _ _ start c.in_ok-push_multiples.ensures.size;
       before = λ i below. c.in_ok-push_multiples.ensures.before i (still_there (length old) (length before) l size i below) ∙ c.loop-l.invariant.before i below;
-      entries = powers_doubled field.ring (field.value c.args.first) (field.value c.args.base) (field.value c.exp_power_of_2-factor.result) (layer_place c.args.reversed n) l (layer_step c.args.reversed n l)
+      entries =
+          powers_doubled field.ring (field.value c.args.first) (field.value c.args.base)
+          (field.value c.exp_power_of_2-factor.result) (layer_place c.args.reversed n) l
+          (layer_step c.args.reversed n l)
           (λ b. field.value (get_or before (length old + b) field.zero)) entry
           (c.exp_power_of_2-factor.ensures ∙ ap (λ e. power field.ring (field.value c.args.base) (2 ^ e)) step)
           (λ b below. place_above c.args.reversed n l b c.loop-l-test.true below) c.loop-l.invariant.entries
           (λ b below. ap field.value (c.in_ok-push_multiples.ensures.before (length old + b) (among_them (length old) (length before) l size b below)))
           (λ b below.
           ap (λ k. field.value (get_or now k field.zero)) (behind_them (length old) (length before) l size b)
-          ∙ c.in_ok-push_multiples.ensures.after b (subst (λ (n : ℕ). n + b < length before) (sym start) (among_them (length old) (length before) l size b below))
+          ∙ c.in_ok-push_multiples.ensures.after b (subst (λ (n : ℕ). n + b < length before) (sym start)
+          (among_them (length old) (length before) l size b below))
           ∙ ap (λ k. field.ring.mul (field.value (get_or before k field.zero)) (field.value c.exp_power_of_2-factor.result)) (ap (λ n. n + b) start));
     }
 
 pub returns-clause-size : goal.returns-clause-size
-returns-clause-size g c = at_end (λ l. length c.loop-l.twiddles.items ≡ length c.args.twiddles.now.items + 2 ^ l) c.loop-l.l c.args.bits c.loop-l.auto.l-end c.loop-l-test.false c.loop-l.invariant.size
+returns-clause-size g c =
+    at_end (λ l. length c.loop-l.twiddles.items ≡ length c.args.twiddles.now.items + 2 ^ l) c.loop-l.l c.args.bits
+    c.loop-l.auto.l-end c.loop-l-test.false c.loop-l.invariant.size
 
 pub returns-clause-entries : goal.returns-clause-entries
-returns-clause-entries g c e inside = c.loop-l.invariant.entries e (at_end (λ l. e < 2 ^ l) c.args.bits c.loop-l.l c.loop-l-test.false c.loop-l.auto.l-end inside)
+returns-clause-entries g c e inside =
+    c.loop-l.invariant.entries e
+    (at_end (λ l. e < 2 ^ l) c.args.bits c.loop-l.l c.loop-l-test.false c.loop-l.auto.l-end inside)
 
 pub returns-in_err-push_multiples-clause-room : goal.returns-in_err-push_multiples-clause-room
 returns-in_err-push_multiples-clause-room g c =

@@ -5,7 +5,8 @@ use Rattle.p3_networks.proofs.Layers.Halves.{in_first, in_second}
 use Rattle.p3_networks.proofs.twiddles.push_multiples.Goals as goal
 
 -- one multiple more
-module _ {T A : Type 0} (value : T → A) (d : T) (times : A → A) (old now new : List T) (from i : ℕ) (x y : T) (size : length now + from ≡ length old + i) (from_on : from ≤ i) (pushed : new ≡ now ++ y ∷ []) where
+module _ {T A : Type 0} (value : T → A) (d : T) (times : A → A) (old now new : List T) (from i : ℕ) (x y : T)
+    (size : length now + from ≡ length old + i) (from_on : from ≤ i) (pushed : new ≡ now ++ y ∷ []) where
   more_size : length new + from ≡ length old + (i + 1)
   more_size = let e : length new ≡ length now + 1 = ap length pushed ∙ length-append now (y ∷ []) in omega (arith, e, size)
 
@@ -35,9 +36,17 @@ loop-i-preserved g c =
     let new = c.push.new.items.items in
     let among : c.loop-i.i < length old = omega (arith, c.len-i-end.ensures, c.loop-i-test.true) in
     record {
-      size = more_size field.value field.zero times old now new c.args.from c.loop-i.i c.index.result.now c.mul-multiple.result c.loop-i.invariant.size c.loop-i.auto.i c.in_ok-push.ensures.items;
-      before = more_before field.value field.zero times old now new c.args.from c.loop-i.i c.index.result.now c.mul-multiple.result c.loop-i.invariant.size c.loop-i.auto.i c.in_ok-push.ensures.items c.loop-i.invariant.before;
-      after = more_after field.value field.zero times old now new c.args.from c.loop-i.i c.index.result.now c.mul-multiple.result c.loop-i.invariant.size c.loop-i.auto.i c.in_ok-push.ensures.items c.loop-i.invariant.before among
+      size =
+          more_size field.value field.zero times old now new c.args.from c.loop-i.i c.index.result.now
+          c.mul-multiple.result c.loop-i.invariant.size c.loop-i.auto.i c.in_ok-push.ensures.items;
+      before =
+          more_before field.value field.zero times old now new c.args.from c.loop-i.i c.index.result.now
+          c.mul-multiple.result c.loop-i.invariant.size c.loop-i.auto.i c.in_ok-push.ensures.items
+          c.loop-i.invariant.before;
+      after =
+          more_after field.value field.zero times old now new c.args.from c.loop-i.i c.index.result.now
+          c.mul-multiple.result c.loop-i.invariant.size c.loop-i.auto.i c.in_ok-push.ensures.items
+          c.loop-i.invariant.before among
           c.index.ensures (g.met.F.Field.mul_law _ _ _ c.mul-multiple.ensures) c.loop-i.invariant.after;
     }
 

@@ -9,8 +9,12 @@ returns-clause-chunk g c =
     let part = c.args.self.now.part in
     let half = c.args.self.now.half in
     let size = half * part in
-    let near = λ (x y : g.row.F.Denot). g.R.Rule.near field.Element field.ring field.value c.args.self.now.rule (c.args.self.now.first_block + c.args.number) 0 (field.value x) (field.value y) in
-    let far = λ (x y : g.row.F.Denot). g.R.Rule.far field.Element field.ring field.value c.args.self.now.rule (c.args.self.now.first_block + c.args.number) 0 (field.value x) (field.value y) in
+    let near =
+    λ (x y : g.row.F.Denot). g.R.Rule.near field.Element field.ring field.value c.args.self.now.rule
+    (c.args.self.now.first_block + c.args.number) 0 (field.value x) (field.value y) in
+    let far =
+    λ (x y : g.row.F.Denot). g.R.Rule.far field.Element field.ring field.value c.args.self.now.rule
+    (c.args.self.now.first_block + c.args.number) 0 (field.value x) (field.value y) in
     let low = c.on_halves.new.low in
     let high = c.on_halves.new.high in
     let front = c.split_at_mut-low.ensures in
@@ -18,8 +22,16 @@ returns-clause-chunk g c =
     let first = λ (n : ℕ) (below : n < size). in_first low high n field.zero (omega (arith, below, c.on_halves.auto.low, front.front_len)) in
     let second = λ (n : ℕ). in_second low high size n field.zero (omega (arith, c.on_halves.auto.low, front.front_len)) in
     record {
-      near_half = λ t j row column p q. let below = row_below t j part half row column in ap field.value (first _ below) ∙ met.near t j row column p q ∙ of_halves near c.args.chunk.now _ _ size _ field.zero front.front front.back below;
-      far_half = λ t j row column p q. let below = row_below t j part half row column in ap field.value (second _) ∙ met.far t j row column p q ∙ of_halves far c.args.chunk.now _ _ size _ field.zero front.front front.back below;
+      near_half =
+          λ t j row column p q.
+          let below = row_below t j part half row column in
+          ap field.value (first _ below) ∙ met.near t j row column p q
+          ∙ of_halves near c.args.chunk.now _ _ size _ field.zero front.front front.back below;
+      far_half =
+          λ t j row column p q.
+          let below = row_below t j part half row column in
+          ap field.value (second _) ∙ met.far t j row column p q
+          ∙ of_halves far c.args.chunk.now _ _ size _ field.zero front.front front.back below;
       kept = λ t j row column o.
           let below = row_below t j part half row column in
           let stays = met.kept t j row column o in (

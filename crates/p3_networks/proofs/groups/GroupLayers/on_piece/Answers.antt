@@ -12,7 +12,8 @@ overflow_shl-part g c = (part_sizes c.args.self.now.from c.args.self.now.to c.ar
 
 pub overflow_mul-part : goal.overflow_mul-part
 overflow_mul-part g c =
-    Fits-le ((part_sizes c.args.self.now.from c.args.self.now.to c.args.number c.args.self.now.width c.requires.order c.requires.fits_u64).within _ c.requires.size).1 search
+    Fits-le ((part_sizes c.args.self.now.from c.args.self.now.to c.args.number c.args.self.now.width c.requires.order
+    c.requires.fits_u64).within _ c.requires.size).1 search
 
 pub loop-done-init : goal.loop-done-init
 loop-done-init g c = record {
@@ -22,31 +23,56 @@ loop-done-init g c = record {
 }
 
 pub overflow_shl-half : goal.overflow_shl-half
-overflow_shl-half g c = let sizes = piece_sizes c.args.self.now.from c.args.self.now.to c.layer-log_half.result c.args.number c.args.self.now.width c.layer-log_half.ensures.first c.layer-log_half.ensures.last c.requires.fits_u64 in omega (arith, sizes.digits, c.layer-log_half.ensures.last)
+overflow_shl-half g c =
+    let sizes =
+    piece_sizes c.args.self.now.from c.args.self.now.to c.layer-log_half.result c.args.number c.args.self.now.width
+    c.layer-log_half.ensures.first c.layer-log_half.ensures.last c.requires.fits_u64 in
+    omega (arith, sizes.digits, c.layer-log_half.ensures.last)
 
 pub overflow_shl-blocks : goal.overflow_shl-blocks
-overflow_shl-blocks g c = let sizes = piece_sizes c.args.self.now.from c.args.self.now.to c.layer-log_half.result c.args.number c.args.self.now.width c.layer-log_half.ensures.first c.layer-log_half.ensures.last c.requires.fits_u64 in omega (arith, sizes.digits)
+overflow_shl-blocks g c =
+    let sizes =
+    piece_sizes c.args.self.now.from c.args.self.now.to c.layer-log_half.result c.args.number c.args.self.now.width
+    c.layer-log_half.ensures.first c.layer-log_half.ensures.last c.requires.fits_u64 in
+    omega (arith, sizes.digits)
 
 pub overflow_mul-first_block : goal.overflow_mul-first_block
-overflow_mul-first_block g c = let sizes = piece_sizes c.args.self.now.from c.args.self.now.to c.layer-log_half.result c.args.number c.args.self.now.width c.layer-log_half.ensures.first c.layer-log_half.ensures.last c.requires.fits_u64 in omega (arith, sizes.room)
+overflow_mul-first_block g c =
+    let sizes =
+    piece_sizes c.args.self.now.from c.args.self.now.to c.layer-log_half.result c.args.number c.args.self.now.width
+    c.layer-log_half.ensures.first c.layer-log_half.ensures.last c.requires.fits_u64 in
+    omega (arith, sizes.room)
 
 pub layer_of_columns-requires-clause-inside : goal.layer_of_columns-requires-clause-inside
-layer_of_columns-requires-clause-inside g c = let sizes = piece_sizes c.args.self.now.from c.args.self.now.to c.layer-log_half.result c.args.number c.args.self.now.width c.layer-log_half.ensures.first c.layer-log_half.ensures.last c.requires.fits_u64 in omega (arith, sizes.part_is, c.requires.inside)
+layer_of_columns-requires-clause-inside g c =
+    let sizes =
+    piece_sizes c.args.self.now.from c.args.self.now.to c.layer-log_half.result c.args.number c.args.self.now.width
+    c.layer-log_half.ensures.first c.layer-log_half.ensures.last c.requires.fits_u64 in
+    omega (arith, sizes.part_is, c.requires.inside)
 
 pub layer_of_columns-requires-clause-blocks : goal.layer_of_columns-requires-clause-blocks
-layer_of_columns-requires-clause-blocks g c = (piece_sizes c.args.self.now.from c.args.self.now.to c.layer-log_half.result c.args.number c.args.self.now.width c.layer-log_half.ensures.first c.layer-log_half.ensures.last c.requires.fits_u64).some_blocks
+layer_of_columns-requires-clause-blocks g c =
+    (piece_sizes c.args.self.now.from c.args.self.now.to c.layer-log_half.result c.args.number c.args.self.now.width
+    c.layer-log_half.ensures.first c.layer-log_half.ensures.last c.requires.fits_u64).some_blocks
 
 pub layer_of_columns-requires-clause-numbers : goal.layer_of_columns-requires-clause-numbers
-layer_of_columns-requires-clause-numbers g c = (piece_sizes c.args.self.now.from c.args.self.now.to c.layer-log_half.result c.args.number c.args.self.now.width c.layer-log_half.ensures.first c.layer-log_half.ensures.last c.requires.fits_u64).room
+layer_of_columns-requires-clause-numbers g c =
+    (piece_sizes c.args.self.now.from c.args.self.now.to c.layer-log_half.result c.args.number c.args.self.now.width
+    c.layer-log_half.ensures.first c.layer-log_half.ensures.last c.requires.fits_u64).room
 
 pub layer_of_columns-requires-clause-size : goal.layer_of_columns-requires-clause-size
 layer_of_columns-requires-clause-size g c =
-    c.loop-done.auto.chunk ∙ c.requires.size ∙ (piece_sizes c.args.self.now.from c.args.self.now.to c.layer-log_half.result c.args.number c.args.self.now.width c.layer-log_half.ensures.first c.layer-log_half.ensures.last c.requires.fits_u64).cells
+    c.loop-done.auto.chunk ∙ c.requires.size
+    ∙ (piece_sizes c.args.self.now.from c.args.self.now.to c.layer-log_half.result c.args.number
+    c.args.self.now.width c.layer-log_half.ensures.first c.layer-log_half.ensures.last c.requires.fits_u64).cells
 
 pub layer_of_columns-requires-clause-in_table : goal.layer_of_columns-requires-clause-in_table
 layer_of_columns-requires-clause-in_table g c b inside =
-    let sizes = piece_sizes c.args.self.now.from c.args.self.now.to c.layer-log_half.result c.args.number c.args.self.now.width c.layer-log_half.ensures.first c.layer-log_half.ensures.last c.requires.fits_u64 in
-    c.requires.in_table _ (block_there c.args.self.now.to c.layer-log_half.result c.args.number _ c.layer-log_half.ensures.last (omega (arith, inside, sizes.numbers)))
+    let sizes =
+    piece_sizes c.args.self.now.from c.args.self.now.to c.layer-log_half.result c.args.number c.args.self.now.width
+    c.layer-log_half.ensures.first c.layer-log_half.ensures.last c.requires.fits_u64 in
+    c.requires.in_table _ (block_there c.args.self.now.to c.layer-log_half.result c.args.number _
+    c.layer-log_half.ensures.last (omega (arith, inside, sizes.numbers)))
 
 pub loop-done-preserved : goal.loop-done-preserved
 loop-done-preserved g c =
@@ -69,7 +95,9 @@ loop-done-preserved g c =
     record {
       cells = λ k cells layers room holds.
           let within = chunk_within k to number room in
-          let all : number * blocks + blocks ≤ 2 ^ (k - 1 - e) = let part_of = blocks_within k to e number c.layer-log_half.ensures.last room in omega (arith, part_of, ap (λ n. number * n + n) sizes.blocks_is) in
+          let all : number * blocks + blocks ≤ 2 ^ (k - 1 - e) =
+          let part_of = blocks_within k to e number c.layer-log_half.ensures.last room in
+          omega (arith, part_of, ap (λ n. number * n + n) sizes.blocks_is) in
           let before = cells (cells_of c.args.self.now.order from to done) in
           let after = cells (cells_of c.args.self.now.order from to (done + 1)) in
           let layer : IsLayer (2 ^ (k - 1 - e)) (half * part) (λ b i. near b) (λ b i. far b) before after =
@@ -77,23 +105,34 @@ loop-done-preserved g c =
           (subst (λ (n : ℕ). IsLayer (2 ^ (k - 1 - n)) (2 ^ n * w) (λ b i. near b) (λ b i. far b) before after) (sym c.layer-log_half.ensures.layer)
           (layer_in_order c.args.self.now.order k w from to done near far cells layers (omega (arith, c.loop-done-test.true)) within)) in
           let first : number * blocks * (2 * (half * part)) ≡ number * len =
-          (let assoc : number * blocks * (2 * (half * part)) ≡ number * (blocks * (2 * (half * part))) = omega arith in assoc) ∙ ap (λ n. number * n) (sym sizes.cells ∙ sym c.requires.size) in
-          columns_next field.value field.zero c.args.at c.args.end (2 ^ from * w) part rows (blocks * (2 * half)) (number * len) (number * blocks * (2 * (half * part))) before after
+          (let assoc : number * blocks * (2 * (half * part)) ≡ number * (blocks * (2 * (half * part))) = omega arith in
+          assoc)
+          ∙ ap (λ n. number * n) (sym sizes.cells ∙ sym c.requires.size) in
+          columns_next field.value field.zero c.args.at c.args.end (2 ^ from * w) part rows (blocks * (2 * half))
+          (number * len) (number * blocks * (2 * (half * part))) before after
           c.args.chunk.now c.loop-done.chunk c.layer_of_columns.new.values sizes.part_is sizes.rows first
           (c.layer_of_columns.ensures.cells (2 ^ (k - 1 - e)) before after layer all)
           (c.loop-done.invariant.cells k cells layers room holds);
       grows = le_trans c.loop-done.invariant.grows c.layer_of_columns.ensures.grows;
-      cost = piece_layer_counted rule.cost done rows blocks half (c.args.end - c.args.at) c.args.products.now c.loop-done.products c.layer_of_columns.new.products sizes.rows c.loop-done.invariant.cost c.layer_of_columns.ensures.cost;
+      cost =
+          piece_layer_counted rule.cost done rows blocks half (c.args.end - c.args.at) c.args.products.now
+          c.loop-done.products c.layer_of_columns.new.products sizes.rows c.loop-done.invariant.cost
+          c.layer_of_columns.ensures.cost;
     }
 
 pub returns-clause-cells : goal.returns-clause-cells
 returns-clause-cells g c k cells layers room holds =
     let field = g.F.Valued in
     let end : c.loop-done.done ≡ c.args.self.now.to - c.args.self.now.from = omega arith in
-    subst (λ (n : ℕ). TakesColumns field.value field.zero (2 ^ c.args.self.now.from * c.args.self.now.width) (2 ^ (c.args.self.now.to - c.args.self.now.from)) (c.args.number * length c.args.chunk.now) c.args.at c.args.end (cells (cells_of c.args.self.now.order c.args.self.now.from c.args.self.now.to n)) c.args.chunk.now c.loop-done.chunk) end
+    subst (λ (n : ℕ). TakesColumns field.value field.zero (2 ^ c.args.self.now.from * c.args.self.now.width)
+    (2 ^ (c.args.self.now.to - c.args.self.now.from)) (c.args.number * length c.args.chunk.now) c.args.at
+    c.args.end (cells (cells_of c.args.self.now.order c.args.self.now.from c.args.self.now.to n)) c.args.chunk.now
+    c.loop-done.chunk) end
     (c.loop-done.invariant.cells k cells layers room holds)
 
 pub returns-clause-cost : goal.returns-clause-cost
 returns-clause-cost g c =
     let e = c.args.self.now.to - c.args.self.now.from in
-    at_end (λ n. 2 * c.loop-done.products ≤ 2 * c.args.products.now + g.R.Rule.cost * (n * (2 ^ e * (c.args.end - c.args.at)))) c.loop-done.done e c.loop-done.auto.done-end c.loop-done-test.false c.loop-done.invariant.cost
+    at_end (λ n. 2 * c.loop-done.products
+    ≤ 2 * c.args.products.now + g.R.Rule.cost * (n * (2 ^ e * (c.args.end - c.args.at)))) c.loop-done.done e
+    c.loop-done.auto.done-end c.loop-done-test.false c.loop-done.invariant.cost

@@ -11,9 +11,13 @@ invariant-loop-done g l =
     let rows = 2 ^ (l.fn.self.to - l.fn.self.from) in
     let first = l.fn.number * length l.fn.chunk in
     record {
-      cells : (k : ℕ) (cells : ℕ → ℕ → field.Element) → AreLayersInOrder l.fn.self.order k l.fn.self.width near far cells → (l.fn.number + 1) * 2 ^ l.fn.self.to ≤ 2 ^ k
-          → HoldsColumns field.value field.zero (2 ^ l.fn.self.from * l.fn.self.width) rows first l.fn.at l.fn.end (cells (cells_of l.fn.self.order l.fn.self.from l.fn.self.to 0)) l.fn.chunk
-          → TakesColumns field.value field.zero (2 ^ l.fn.self.from * l.fn.self.width) rows first l.fn.at l.fn.end (cells (cells_of l.fn.self.order l.fn.self.from l.fn.self.to l.done)) l.fn.chunk l.chunk;
+      cells : (k : ℕ) (cells : ℕ → ℕ → field.Element)
+          → AreLayersInOrder l.fn.self.order k l.fn.self.width near far cells
+          → (l.fn.number + 1) * 2 ^ l.fn.self.to ≤ 2 ^ k
+          → HoldsColumns field.value field.zero (2 ^ l.fn.self.from * l.fn.self.width) rows first l.fn.at l.fn.end
+          (cells (cells_of l.fn.self.order l.fn.self.from l.fn.self.to 0)) l.fn.chunk
+          → TakesColumns field.value field.zero (2 ^ l.fn.self.from * l.fn.self.width) rows first l.fn.at l.fn.end
+          (cells (cells_of l.fn.self.order l.fn.self.from l.fn.self.to l.done)) l.fn.chunk l.chunk;
       grows : l.fn.products ≤ l.products;
       cost : 2 * l.products ≤ 2 * l.fn.products + rule.cost * (l.done * (rows * (l.fn.end - l.fn.at)));
     }

@@ -14,9 +14,13 @@ invariant-loop-p g l =
     let first = l.fn.number * length l.fn.chunk in
     let done = l.p * l.fn.self.piece in
     record {
-      cells : (k : ℕ) (cells : ℕ → ℕ → field.Element) → AreLayersInOrder l.fn.self.order k l.fn.self.width near far cells → (l.fn.number + 1) * 2 ^ l.fn.self.to ≤ 2 ^ k
+      cells : (k : ℕ) (cells : ℕ → ℕ → field.Element)
+          → AreLayersInOrder l.fn.self.order k l.fn.self.width near far cells
+          → (l.fn.number + 1) * 2 ^ l.fn.self.to ≤ 2 ^ k
           → HoldsCells field.value field.zero first (cells (cells_of l.fn.self.order l.fn.self.from l.fn.self.to 0)) l.fn.chunk
-          → TakesColumns field.value field.zero part rows first 0 done (cells (cells_of l.fn.self.order l.fn.self.from l.fn.self.to (l.fn.self.to - l.fn.self.from))) l.fn.chunk l.chunk;
+          → TakesColumns field.value field.zero part rows first 0 done
+          (cells (cells_of l.fn.self.order l.fn.self.from l.fn.self.to (l.fn.self.to - l.fn.self.from))) l.fn.chunk
+          l.chunk;
       grows : l.fn.products ≤ l.products;
       cost : 2 * l.products ≤ 2 * l.fn.products + rule.cost * ((l.fn.self.to - l.fn.self.from) * (rows * (done - (done - part))));
     }

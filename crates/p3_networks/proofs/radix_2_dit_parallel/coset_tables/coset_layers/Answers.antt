@@ -20,7 +20,9 @@ loop-l-preserved g c =
     let some = pow_pos l in
     record {
       full = omega (arith, longer, c.loop-l.invariant.full, twice, some);
-      layers = one_more_layer field (λ i t. coset_twiddles field (forward_root field g.F.TwoAdicField.generator) (field.value c.args.shift) log i (layer_place (leb (mid_of log) i) i t)) l
+      layers =
+          one_more_layer field (λ i t. coset_twiddles field (forward_root field g.F.TwoAdicField.generator)
+          (field.value c.args.shift) log i (layer_place (leb (mid_of log) i) i t)) l
           c.loop-l.twiddles.items c.push_layer.new.twiddles.items c.loop-l.invariant.full c.loop-l.invariant.layers longer c.in_ok-push_layer.ensures.before
           (λ t below.
           c.in_ok-push_layer.ensures.entries t below
@@ -28,13 +30,17 @@ loop-l-preserved g c =
     }
 
 pub returns-clause-size : goal.returns-clause-size
-returns-clause-size g c = at_end (λ l. length c.loop-l.twiddles.items ≡ 2 ^ l - 1) c.loop-l.l c.args.log_h c.loop-l.auto.l-end c.loop-l-test.false c.loop-l.invariant.full
+returns-clause-size g c =
+    at_end (λ l. length c.loop-l.twiddles.items ≡ 2 ^ l - 1) c.loop-l.l c.args.log_h c.loop-l.auto.l-end
+    c.loop-l-test.false c.loop-l.invariant.full
 
 pub returns-clause-table : goal.returns-clause-table
 returns-clause-table g c =
     let field = g.F.Valued in
     let log = c.args.log_h in
-    at_end (λ n. AreTwiddlesOfLayers field n (λ i t. coset_twiddles field (forward_root field g.F.TwoAdicField.generator) (field.value c.args.shift) log i (layer_place (leb (mid_of log) i) i t)) c.loop-l.twiddles.items)
+    at_end (λ n. AreTwiddlesOfLayers field n (λ i t. coset_twiddles field
+    (forward_root field g.F.TwoAdicField.generator) (field.value c.args.shift) log i
+    (layer_place (leb (mid_of log) i) i t)) c.loop-l.twiddles.items)
     c.loop-l.l log c.loop-l.auto.l-end c.loop-l-test.false c.loop-l.invariant.layers
 
 pub returns-in_err-push_layer-clause-room : goal.returns-in_err-push_layer-clause-room

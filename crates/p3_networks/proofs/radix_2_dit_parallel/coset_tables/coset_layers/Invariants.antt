@@ -10,5 +10,7 @@ invariant-loop-l g l =
     let log = l.fn.log_h in
     record {
       full : length l.twiddles.items ≡ 2 ^ l.l - 1;
-      layers : AreTwiddlesOfLayers field l.l (λ i t. coset_twiddles field (forward_root field g.F.TwoAdicField.generator) (field.value l.fn.shift) log i (layer_place (leb (mid_of log) i) i t)) l.twiddles.items;
+      layers : AreTwiddlesOfLayers field l.l (λ i t. coset_twiddles field
+          (forward_root field g.F.TwoAdicField.generator) (field.value l.fn.shift) log i
+          (layer_place (leb (mid_of log) i) i t)) l.twiddles.items;
     }

@@ -13,4 +13,6 @@ pub returns-clause-values : goal.returns-clause-values
 returns-clause-values g c = c.on_chunk.ensures.chunk
 
 pub returns-clause-lent : goal.returns-clause-lent
-returns-clause-lent g c = subst (λ (block : RowMajor g.row.F.Denot). g.C.BlockConsumer.step c.args.consumer.now c.args.row block c.consume.result c.consume.new.self) c.new-block.ensures c.consume.ensures
+returns-clause-lent g c =
+    subst (λ (block : RowMajor g.row.F.Denot). g.C.BlockConsumer.step c.args.consumer.now c.args.row block
+    c.consume.result c.consume.new.self) c.new-block.ensures c.consume.ensures

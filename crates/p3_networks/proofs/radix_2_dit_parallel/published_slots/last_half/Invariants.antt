@@ -15,7 +15,8 @@ invariant-loop-chunk g l =
     let w = l.fn.width in
     record {
       chunks : ChunksDone field.zero (length l.initial.values / one_shifted l.fn.mid)
-          (λ a before. IsHighNetwork field l.fn.mid left w a (g.T.LayerTwiddles.at l.fn.table) (λ q j. field.ring.mul (field.value (get_or before (q * w + j) field.zero)) field.ring.one))
+          (λ a before. IsHighNetwork field l.fn.mid left w a (g.T.LayerTwiddles.at l.fn.table)
+          (λ q j. field.ring.mul (field.value (get_or before (q * w + j) field.zero)) field.ring.one))
           l.initial.values l.chunk l.values;
       told : Run g.C.BlockConsumer.step l.fn.consumer (slot_blocks l.fn.first_row (2 ^ left) w l.values l.chunk) l.consumer;
       cost : RisesAtMost (1 * (l.chunk * (w * (left * 2 ^ left / 2)))) l.fn.products l.products;

@@ -9,11 +9,13 @@ use Rattle.p3_networks.proofs.radix_2_small_batch.slots.evaluate_to_reversed.Goa
 
 pub dit_network_to_reversed-requires-clause-first : goal.dit_network_to_reversed-requires-clause-first
 dit_network_to_reversed-requires-clause-first g c =
-    first_is_one g.F.Valued (forward_root g.F.Valued g.F.TwoAdicField.generator) c.args.log_h c.args.twiddles.now (omega (arith, c.if-log_h-gt0.true)) c.requires.twiddles
+    first_is_one g.F.Valued (forward_root g.F.Valued g.F.TwoAdicField.generator) c.args.log_h c.args.twiddles.now
+    (omega (arith, c.if-log_h-gt0.true)) c.requires.twiddles
 
 pub dit_network_to_reversed-requires-clause-enough : goal.dit_network_to_reversed-requires-clause-enough
 dit_network_to_reversed-requires-clause-enough g c =
-    enough_from_start g.F.Valued (forward_root g.F.Valued g.F.TwoAdicField.generator) c.args.log_h c.args.twiddles.now (omega (arith, c.if-log_h-gt0.true)) c.requires.twiddles
+    enough_from_start g.F.Valued (forward_root g.F.Valued g.F.TwoAdicField.generator) c.args.log_h c.args.twiddles.now
+    (omega (arith, c.if-log_h-gt0.true)) c.requires.twiddles
 
 pub returns-then-log_h-gt0-clause-values : goal.returns-then-log_h-gt0-clause-values
 returns-then-log_h-gt0-clause-values g c =

@@ -5,7 +5,8 @@ use Rattle.p3_networks.proofs.radix_2_small_batch.slots.evaluate_to_reversed_oop
 
 pub returns-clause-values : goal.returns-clause-values
 returns-clause-values g c =
-    values_of_shifted g.F.Valued g.F.TwoAdicField.generator c.args.log_h c.args.width (g.F.Valued.value c.args.shift) _ c.args.coefficients.now c.copy_shifted.new.values c.evaluate_to_reversed.new.values
+    values_of_shifted g.F.Valued g.F.TwoAdicField.generator c.args.log_h c.args.width (g.F.Valued.value c.args.shift) _
+    c.args.coefficients.now c.copy_shifted.new.values c.evaluate_to_reversed.new.values
     (one_shl c.args.log_h 64 c.requires.fits_u64) c.copy_shifted.ensures.values c.evaluate_to_reversed.ensures.values
 
 pub evaluate_to_reversed-requires-clause-twiddles : goal.evaluate_to_reversed-requires-clause-twiddles

@@ -20,24 +20,37 @@ use Rattle.p3_networks.proofs.Layers.Shifts.{one_shifted}
 use Rattle.p3_networks.proofs.radix_2_small_batch.slots.slots_network.Goals as goal
 
 pub overflow_mul-start : goal.overflow_mul-start
-overflow_mul-start g c = Fits-le (slot_begins (length c.args.values.now) c.args.log_h c.args.added_bits c.args.width c.loop-place.place c.requires.fits_u64 c.requires.size c.loop-place-test.true) search
+overflow_mul-start g c =
+    Fits-le (slot_begins (length c.args.values.now) c.args.log_h c.args.added_bits c.args.width c.loop-place.place
+    c.requires.fits_u64 c.requires.size c.loop-place-test.true) search
 
 pub overflow_add-slot : goal.overflow_add-slot
-overflow_add-slot g c = Fits-le (slot_within (length c.args.values.now) c.args.log_h c.args.added_bits c.args.width c.loop-place.place c.requires.fits_u64 c.requires.size c.loop-place-test.true) search
+overflow_add-slot g c =
+    Fits-le (slot_within (length c.args.values.now) c.args.log_h c.args.added_bits c.args.width c.loop-place.place
+    c.requires.fits_u64 c.requires.size c.loop-place-test.true) search
 
 pub offset_bounds-others-start : goal.offset_bounds-others-start
-offset_bounds-others-start g c = scaled_fits≤ _ _ _ (slot_begins (length c.args.values.now) c.args.log_h c.args.added_bits c.args.width c.loop-place.place c.requires.fits_u64 c.requires.size c.loop-place-test.true) search
+offset_bounds-others-start g c =
+    scaled_fits≤ _ _ _ (slot_begins (length c.args.values.now) c.args.log_h c.args.added_bits c.args.width
+    c.loop-place.place c.requires.fits_u64 c.requires.size c.loop-place-test.true) search
 
 pub slice_bounds-slot-end : goal.slice_bounds-slot-end
-slice_bounds-slot-end g c = slot_inside (length c.args.values.now) c.args.log_h c.args.added_bits c.args.width c.loop-place.place c.requires.fits_u64 c.requires.size c.loop-place-test.true _ _ c.split_at_mut-coefficients.ensures.back_len c.loop-place.auto.others
+slice_bounds-slot-end g c =
+    slot_inside (length c.args.values.now) c.args.log_h c.args.added_bits c.args.width c.loop-place.place
+    c.requires.fits_u64 c.requires.size c.loop-place-test.true _ _ c.split_at_mut-coefficients.ensures.back_len
+    c.loop-place.auto.others
 
 pub evaluate_to_reversed_oop-requires-clause-source : goal.evaluate_to_reversed_oop-requires-clause-source
 evaluate_to_reversed_oop-requires-clause-source g c =
-    c.split_at_mut-coefficients.ensures.front_len ∙ slot_size (length c.args.values.now) c.args.log_h c.args.added_bits c.args.width c.requires.fits_u64 c.requires.size
+    c.split_at_mut-coefficients.ensures.front_len
+    ∙ slot_size (length c.args.values.now) c.args.log_h c.args.added_bits c.args.width c.requires.fits_u64
+    c.requires.size
 
 pub evaluate_to_reversed_oop-requires-clause-size : goal.evaluate_to_reversed_oop-requires-clause-size
 evaluate_to_reversed_oop-requires-clause-size g c =
-    part_length c.loop-place.others _ _ (slot_inside (length c.args.values.now) c.args.log_h c.args.added_bits c.args.width c.loop-place.place c.requires.fits_u64 c.requires.size c.loop-place-test.true _ _ c.split_at_mut-coefficients.ensures.back_len c.loop-place.auto.others)
+    part_length c.loop-place.others _ _ (slot_inside (length c.args.values.now) c.args.log_h c.args.added_bits
+    c.args.width c.loop-place.place c.requires.fits_u64 c.requires.size c.loop-place-test.true _ _
+    c.split_at_mut-coefficients.ensures.back_len c.loop-place.auto.others)
     ∙ slot_size (length c.args.values.now) c.args.log_h c.args.added_bits c.args.width c.requires.fits_u64 c.requires.size
 
 pub loop-place-init : goal.loop-place-init
@@ -58,7 +71,9 @@ loop-place-preserved g c =
     let place = c.loop-place.place in
     let len = length c.args.values.now in
     let is = slot_size len k a w c.requires.fits_u64 c.requires.size in
-    let fits = slot_inside len k a w place c.requires.fits_u64 c.requires.size c.loop-place-test.true _ _ c.split_at_mut-coefficients.ensures.back_len c.loop-place.auto.others in
+    let fits =
+    slot_inside len k a w place c.requires.fits_u64 c.requires.size c.loop-place-test.true _ _
+    c.split_at_mut-coefficients.ensures.back_len c.loop-place.auto.others in
     let roots : AreRoots field.ring (k + a) gen = fewer_roots field.ring (k + a) _ c.requires.within g.met.F.TwoAdicField.roots_law in
     let turned : field.value c.mul.result ≡ point field.ring gen (k + a) s (rev a (place + 1)) =
     g.met.F.Field.mul_law _ _ _ c.mul.ensures
@@ -70,8 +85,11 @@ loop-place-preserved g c =
           (c.evaluate_to_reversed_oop.auto.values ∙ part_length c.loop-place.others _ _ fits ∙ is)
           (λ u inside t j p q at.
           ap (λ n. field.value (get_or c.evaluate_to_reversed_oop.new.values n field.zero)) at
-          ∙ slot_rows field g.F.TwoAdicField.generator k a w (λ q. q) s c.args.values.now c.split_at_mut-coefficients.result.0.now c.split_at_mut-coefficients.result.1.now c.evaluate_to_reversed_oop.new.values c.split_at_mut-coefficients.ensures.value
-          (c.split_at_mut-coefficients.ensures.front_len ∙ is) (λ u l. l) roots _ (place + 1) (2 ^ k) turned c.evaluate_to_reversed_oop.ensures.values _ t j refl p p q)
+          ∙ slot_rows field g.F.TwoAdicField.generator k a w (λ q. q) s c.args.values.now
+          c.split_at_mut-coefficients.result.0.now c.split_at_mut-coefficients.result.1.now
+          c.evaluate_to_reversed_oop.new.values c.split_at_mut-coefficients.ensures.value
+          (c.split_at_mut-coefficients.ensures.front_len ∙ is) (λ u l. l) roots _ (place + 1) (2 ^ k) turned
+          c.evaluate_to_reversed_oop.ensures.values _ t j refl p p q)
           c.loop-place.invariant.slots;
       grows = le_trans c.loop-place.invariant.grows c.evaluate_to_reversed_oop.ensures.grows;
       cost = one_more place (w * (k * 2 ^ k / 2) + 2 ^ k * w) _ _ _ c.loop-place.invariant.cost c.evaluate_to_reversed_oop.ensures.cost;
@@ -80,11 +98,16 @@ loop-place-preserved g c =
 pub shift_values-requires : goal.shift_values-requires
 shift_values-requires g c =
     let rows : one_shifted c.args.log_h ≡ 2 ^ c.args.log_h = one_shl c.args.log_h 64 (omega (arith, c.requires.fits_u64)) in
-    c.split_at_mut-coefficients.ensures.front_len ∙ slot_size (length c.args.values.now) c.args.log_h c.args.added_bits c.args.width c.requires.fits_u64 c.requires.size ∙ ap (λ n. n * c.args.width) (sym rows)
+    c.split_at_mut-coefficients.ensures.front_len
+    ∙ slot_size (length c.args.values.now) c.args.log_h c.args.added_bits c.args.width c.requires.fits_u64
+    c.requires.size
+    ∙ ap (λ n. n * c.args.width) (sym rows)
 
 pub evaluate_to_reversed-requires-clause-size : goal.evaluate_to_reversed-requires-clause-size
 evaluate_to_reversed-requires-clause-size g c =
-    c.shift_values.auto.values ∙ c.split_at_mut-coefficients.ensures.front_len ∙ slot_size (length c.args.values.now) c.args.log_h c.args.added_bits c.args.width c.requires.fits_u64 c.requires.size
+    c.shift_values.auto.values ∙ c.split_at_mut-coefficients.ensures.front_len
+    ∙ slot_size (length c.args.values.now) c.args.log_h c.args.added_bits c.args.width c.requires.fits_u64
+    c.requires.size
 
 pub returns-clause-values : goal.returns-clause-values
 returns-clause-values g c =
@@ -98,7 +121,9 @@ returns-clause-values g c =
     let others = c.loop-place.others in
     let coefficients = c.split_at_mut-coefficients.result.0.now in
     let roots : AreRoots field.ring (k + a) gen = fewer_roots field.ring (k + a) _ c.requires.within g.met.F.TwoAdicField.roots_law in
-    let size : length coefficients ≡ 2 ^ k * w = c.split_at_mut-coefficients.ensures.front_len ∙ slot_size (length c.args.values.now) k a w c.requires.fits_u64 c.requires.size in
+    let size : length coefficients ≡ 2 ^ k * w =
+    c.split_at_mut-coefficients.ensures.front_len
+    ∙ slot_size (length c.args.values.now) k a w c.requires.fits_u64 c.requires.size in
     let all = last_slot c.loop-place.place a _ (second_shift k a c.requires.fits_u64) c.loop-place-test.false c.loop-place.auto.place-end in
     let first : s ≡ point field.ring gen (k + a) s (rev a 0) =
     sym (point-mul field.ring gen (k + a) s (rev a 0) ∙ ap (λ n. field.ring.mul s (power field.ring (gen (k + a)) n)) (rev_of_zero a)
@@ -106,9 +131,15 @@ returns-clause-values g c =
     rows_of_slots field.value field.zero k a w front others
     (λ r j. poly field.ring (2 ^ k) (λ u. field.value (get_or c.args.values.now (u * w + j) field.zero)) (point field.ring gen (k + a) s (rev (k + a) r)))
     (c.evaluate_to_reversed.auto.values ∙ c.shift_values.auto.values ∙ size)
-    (λ t j p. slot_rows field g.F.TwoAdicField.generator k a w (λ q. q) s c.args.values.now coefficients c.split_at_mut-coefficients.result.1.now front c.split_at_mut-coefficients.ensures.value size (λ u l. l) roots _ 0 (2 ^ k) first
-    (values_of_shifted field g.F.TwoAdicField.generator k w s _ coefficients c.shift_values.new.values front (first_shift k a c.requires.fits_u64) c.shift_values.ensures.values c.evaluate_to_reversed.ensures.values) t t j (zero_slot k t) p p)
-    (λ p t j below. earlier_rows field.value field.zero k w c.loop-place.place (λ r j. poly field.ring (2 ^ k) (λ u. field.value (get_or c.args.values.now (u * w + j) field.zero)) (point field.ring gen (k + a) s (rev (k + a) r)))
+    (λ t j p. slot_rows field g.F.TwoAdicField.generator k a w (λ q. q) s c.args.values.now coefficients
+    c.split_at_mut-coefficients.result.1.now front c.split_at_mut-coefficients.ensures.value size (λ u l. l) roots _ 0
+    (2 ^ k) first
+    (values_of_shifted field g.F.TwoAdicField.generator k w s _ coefficients c.shift_values.new.values front
+    (first_shift k a c.requires.fits_u64) c.shift_values.ensures.values c.evaluate_to_reversed.ensures.values) t t j
+    (zero_slot k t) p p)
+    (λ p t j below. earlier_rows field.value field.zero k w c.loop-place.place
+    (λ r j. poly field.ring (2 ^ k) (λ u. field.value (get_or c.args.values.now (u * w + j) field.zero))
+    (point field.ring gen (k + a) s (rev (k + a) r)))
     _ others c.loop-place.invariant.slots p t j (before_last p c.loop-place.place _ all below))
 
 pub returns-clause-cost : goal.returns-clause-cost
@@ -117,7 +148,13 @@ returns-clause-cost g c =
     let a = c.args.added_bits in
     let turn = c.args.width * (k * 2 ^ k / 2) + 2 ^ k * c.args.width in
     let all = last_slot c.loop-place.place a _ (second_shift k a c.requires.fits_u64) c.loop-place-test.false c.loop-place.auto.place-end in
-    let last : c.evaluate_to_reversed.new.products ≤ c.loop-place.products + turn = omega (arith, c.shift_values.ensures.cost, ap (λ n. n * c.args.width) (first_shift k a c.requires.fits_u64), c.evaluate_to_reversed.ensures.cost) in
+    let last : c.evaluate_to_reversed.new.products ≤ c.loop-place.products + turn =
+    omega (
+      arith,
+      c.shift_values.ensures.cost,
+      ap (λ n. n * c.args.width) (first_shift k a c.requires.fits_u64),
+      c.evaluate_to_reversed.ensures.cost,
+    ) in
     ones_all (c.loop-place.place + 1) _ turn _ _ (le_of_eq all) (one_more c.loop-place.place turn _ _ _ c.loop-place.invariant.cost last)
 
 pub evaluate_to_reversed-requires-clause-twiddles : goal.evaluate_to_reversed-requires-clause-twiddles

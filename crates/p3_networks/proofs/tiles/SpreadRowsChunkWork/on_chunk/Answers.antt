@@ -18,7 +18,9 @@ twice_counted : (n len before after : ℕ) → after ≤ before + n → len ≡ 
 twice_counted n len before after made full = omega (arith, made, full)
 
 pub overflow_mul-root : goal.overflow_mul-root
-overflow_mul-root g c = Fits-le (le_of_lt (root_place (c.args.self.now.first + c.args.number) c.args.self.now.copies (length c.args.self.now.twiddles.now) c.requires.0 c.requires.4)) search
+overflow_mul-root g c =
+    Fits-le (le_of_lt (root_place (c.args.self.now.first + c.args.number) c.args.self.now.copies
+    (length c.args.self.now.twiddles.now) c.requires.0 c.requires.4)) search
 
 pub offset_bounds-self-number : goal.offset_bounds-self-number
 offset_bounds-self-number g c =
@@ -26,7 +28,9 @@ offset_bounds-self-number g c =
     scaled_Fits _ _ _ (root_place (it.first + c.args.number) it.copies (length it.twiddles.now) c.requires.0 c.requires.4) search
 
 pub bounds-self-number : goal.bounds-self-number
-bounds-self-number g c = root_place (c.args.self.now.first + c.args.number) c.args.self.now.copies (length c.args.self.now.twiddles.now) c.requires.0 c.requires.4
+bounds-self-number g c =
+    root_place (c.args.self.now.first + c.args.number) c.args.self.now.copies (length c.args.self.now.twiddles.now)
+    c.requires.0 c.requires.4
 
 pub multiples_of_row-requires : goal.multiples_of_row-requires
 multiples_of_row-requires g c =
@@ -40,11 +44,17 @@ returns-clause-chunk g c t j copy inside =
     let n = it.first + c.args.number in
     let part_len : length c.chunk-row.result.now ≡ it.width = ap length c.chunk-row.ensures ∙ part_size it.rows.now _ _ c.requires.2 in
     let weight = ap field.value (get_or_default it.weights.now n c.index-self-number-2.result field.zero c.requires.3) in
-    let root = ap field.value (get_or_default it.twiddles.now (n * (it.copies / 2)) c.index-self-number.result field.zero (root_place n it.copies _ c.requires.0 c.requires.4)) in
+    let root =
+    ap field.value (get_or_default it.twiddles.now (n * (it.copies / 2)) c.index-self-number.result field.zero
+    (root_place n it.copies _ c.requires.0 c.requires.4)) in
     ap (λ v. field.value (get_or c.multiples_of_row.new.values (t * v + j) field.zero)) (sym part_len)
     ∙ c.multiples_of_row.ensures.values t j copy (subst (λ v. j < v) (sym part_len) inside)
-    ∙ ap₂ field.ring.mul (ap field.value (ap (λ xs. get_or xs j field.zero) c.chunk-row.ensures ∙ part_at it.rows.now (n * it.width) it.width j field.zero inside)) (ap₂ (λ x y. field.ring.mul x (power field.ring y t)) weight root)
+    ∙ ap₂ field.ring.mul (ap field.value (ap (λ xs. get_or xs j field.zero) c.chunk-row.ensures
+    ∙ part_at it.rows.now (n * it.width) it.width j field.zero inside))
+    (ap₂ (λ x y. field.ring.mul x (power field.ring y t)) weight root)
 
 pub returns-clause-cost : goal.returns-clause-cost
 returns-clause-cost g c =
-    twice_counted _ _ _ _ c.multiples_of_row.ensures.cost (c.requires.1 ∙ ap (λ v. c.args.self.now.copies * v) (sym (ap length c.chunk-row.ensures ∙ part_size c.args.self.now.rows.now _ _ c.requires.2)))
+    twice_counted _ _ _ _ c.multiples_of_row.ensures.cost (c.requires.1
+    ∙ ap (λ v. c.args.self.now.copies * v)
+    (sym (ap length c.chunk-row.ensures ∙ part_size c.args.self.now.rows.now _ _ c.requires.2)))

@@ -1,4 +1,6 @@
-use Rattle.std.proofs.Common.{◌≡◌, ℕ, suc, refl, ◌+◌, ◌-◌, ◌*◌, ◌/◌, ◌^◌, ◌<◌, ◌≤◌, length, get_or, sym, ap, ◌∙◌, subst, arith, add-sub_of_le, add-zero, le_refl, le_trans, lt_of_le_of_lt, mul-le-mul_right, sub-le}
+use Rattle.std.proofs.Common.{◌≡◌, ℕ, suc, refl, ◌+◌, ◌-◌, ◌*◌, ◌/◌, ◌^◌, ◌<◌, ◌≤◌, length, get_or, sym, ap, ◌∙◌, subst}
+use Rattle.std.proofs.Common.{arith, add-sub_of_le, add-zero, le_refl, le_trans, lt_of_le_of_lt, mul-le-mul_right}
+use Rattle.std.proofs.Common.{sub-le}
 use Rattle.p3_field.specs.Ring.{power}
 use Rattle.p3_networks.specs.Layers.{HoldsCells}
 use Rattle.p3_networks.proofs.Layers.Chunks.{chunk_digits}
@@ -28,7 +30,8 @@ halved : (n m : ℕ) → 2 * n ≤ 2 * m → n ≤ m
 halved n m twice = omega (arith, twice)
 
 -- the products of the copies and of the layers
-copies_counted : (layers n len out before middle after : ℕ) → out ≡ len → len ≡ n → middle ≤ before + n → 2 * after ≤ 2 * middle + 1 * (layers * out) → 2 * after ≤ 2 * before + (layers + 2) * len
+copies_counted : (layers n len out before middle after : ℕ) → out ≡ len → len ≡ n → middle ≤ before + n
+    → 2 * after ≤ 2 * middle + 1 * (layers * out) → 2 * after ≤ 2 * before + (layers + 2) * len
 copies_counted layers n len out before middle after same full made done =
     let more : (layers + 2) * len ≡ layers * len + 2 * len = omega arith in
     omega (arith, ap (λ n. layers * n) same, full, made, done, more)
@@ -40,7 +43,9 @@ pub overflow_shl-copies : goal.overflow_shl-copies
 overflow_shl-copies g c = lt_of_le_of_lt c.requires.1.0 (chunk_digits c.args.self.now.log_rows c.args.number c.requires.0.fits_u64)
 
 pub overflow_shl-count : goal.overflow_shl-count
-overflow_shl-count g c = lt_of_le_of_lt (sub-le c.args.self.now.log_rows c.args.self.now.coefficients.added_bits) (chunk_digits c.args.self.now.log_rows c.args.number c.requires.0.fits_u64)
+overflow_shl-count g c =
+    lt_of_le_of_lt (sub-le c.args.self.now.log_rows c.args.self.now.coefficients.added_bits)
+    (chunk_digits c.args.self.now.log_rows c.args.number c.requires.0.fits_u64)
 
 pub on_each_chunk-requires-clause-whole : goal.on_each_chunk-requires-clause-whole
 on_each_chunk-requires-clause-whole g c =
@@ -73,9 +78,16 @@ on_each_chunk-requires-clause-accepts g c n below =
     let whole = chunk.size ∙ cells_of_tile count copies (2 ^ r) it.width sizes.rows in
     let size_is = block_size (length c.args.chunk.now) count (copies * it.width) sizes.nonzero whole in
     let twice = copies_within tile count copies (2 ^ r) _ sizes.rows chunk.enough in
-    let within : (tile * count + count) * it.width ≤ length it.coefficients.rows.now = subst (λ (n : ℕ). (tile * n + n) * it.width ≤ length it.coefficients.rows.now) (sym sizes.count_is) rows in
-    let few : tile * count + count ≤ length it.coefficients.weights.now = subst (λ (n : ℕ). tile * n + n ≤ length it.coefficients.weights.now) (sym sizes.count_is) weights in
-    (sizes.some_copies, size_is, row_room (tile * count) count n it.width _ below within, place_below (tile * count) count n _ below few, row_room (tile * count) count n copies _ below twice)
+    let within : (tile * count + count) * it.width ≤ length it.coefficients.rows.now =
+    subst (λ (n : ℕ). (tile * n + n) * it.width ≤ length it.coefficients.rows.now) (sym sizes.count_is) rows in
+    let few : tile * count + count ≤ length it.coefficients.weights.now =
+    subst (λ (n : ℕ). tile * n + n ≤ length it.coefficients.weights.now) (sym sizes.count_is) weights in (
+      sizes.some_copies,
+      size_is,
+      row_room (tile * count) count n it.width _ below within,
+      place_below (tile * count) count n _ below few,
+      row_room (tile * count) count n copies _ below twice,
+    )
 
 pub layers_of_chunk-requires-clause-below : goal.layers_of_chunk-requires-clause-below
 layers_of_chunk-requires-clause-below g c = c.requires.1.0
@@ -108,7 +120,8 @@ returns g c =
     let cells_all = whole ∙ ap (λ n. count * n) (sym size_is) in
     let len : length out ≡ length c.args.chunk.now = c.on_each_chunk.auto.values in
     let made = λ (n q t j : ℕ). field.ring.mul (field.value (get_or it.coefficients.rows.now (q * w + j) field.zero))
-    (field.ring.mul (field.value (get_or it.coefficients.weights.now q field.zero)) (power field.ring (field.value (get_or it.twiddles.now (q * (n / 2)) field.zero)) t)) in
+    (field.ring.mul (field.value (get_or it.coefficients.weights.now q field.zero))
+    (power field.ring (field.value (get_or it.twiddles.now (q * (n / 2)) field.zero)) t)) in
     record {
       chunk = λ k cells layers room are.
           subst (λ (n : ℕ). HoldsCells field.value field.zero (tile * n) (cells r) c.layers_of_chunk.new.values) len
@@ -118,8 +131,10 @@ returns g c =
           (spread_held field.value field.zero (cells a) (made copies) tile count copies (tile * count + count) w out chunk.width
           (len ∙ chunk.size ∙ cells_of_tile count copies (2 ^ r) w sizes.rows) (le_refl (tile * count + count)) sizes.some_copies
           (subst (λ (n : ℕ). (q t j : ℕ) → q < tile * count + count → t < n → j < w → cells a ((q * n + t) * w + j) ≡ made n q t j) (sym sizes.copies_is)
-          (subst (λ (n : ℕ). (q t j : ℕ) → q < tile * n + n → t < 2 ^ a → j < w → cells a ((q * 2 ^ a + t) * w + j) ≡ made (2 ^ a) q t j) (sym sizes.count_is) are))
-          (λ q t j below copy column. ap field.value (sym (row_at field.zero size copies w q t j out size_is copy column)) ∙ c.on_each_chunk.ensures.chunks q below t j copy column)))));
+          (subst (λ (n : ℕ). (q t j : ℕ) → q < tile * n + n → t < 2 ^ a → j < w → cells a ((q * 2 ^ a + t) * w + j) ≡
+          made (2 ^ a) q t j) (sym sizes.count_is) are))
+          (λ q t j below copy column. ap field.value (sym (row_at field.zero size copies w q t j out size_is copy
+          column)) ∙ c.on_each_chunk.ensures.chunks q below t j copy column)))));
       grows = le_trans c.on_each_chunk.ensures.grows (halved _ _ c.layers_of_chunk.ensures.cost.grows);
       cost = copies_counted (r - a) (count * size) _ _ _ _ _ len cells_all made_all c.layers_of_chunk.ensures.cost.cost;
     }

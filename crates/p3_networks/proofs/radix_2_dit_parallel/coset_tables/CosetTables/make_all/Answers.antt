@@ -1,4 +1,6 @@
-use Rattle.std.proofs.Common.{◌≡◌, ◌⊎◌, inl, inr, ℕ, ◌+◌, ◌^◌, ◌<◌, ◌≤◌, ◌++◌, List, [], ◌∷◌, length, length-append, refl, sym, ap, ◌∙◌, subst, arith, le-add_right, pow_pos, le_of_eq, lt_of_lt_of_le, le_trans, lt_irrefl}
+use Rattle.std.proofs.Common.{◌≡◌, ◌⊎◌, inl, inr, ℕ, ◌+◌, ◌^◌, ◌<◌, ◌≤◌, ◌++◌, List, [], ◌∷◌, length, length-append}
+use Rattle.std.proofs.Common.{refl, sym, ap, ◌∙◌, subst, arith, le-add_right, pow_pos, le_of_eq, lt_of_lt_of_le}
+use Rattle.std.proofs.Common.{le_trans, lt_irrefl}
 use Rattle.std.proofs.lemmas.Bool.{false≢true}
 use Rattle.std.proofs.lemmas.List.{append-nil, append_assoc}
 use Rattle.std.proofs.lemmas.List.Elements.{All-append, All-cons, All-nil}
@@ -25,8 +27,11 @@ one_more {F} f generator k a s before now after shift c below is (inr longer) (a
     )
 
 -- a table that was there is there still, and is that of the coset of an equal shift
-coset_there : {F : Type 0} (f : FieldMembers F) (before now : List (Coset F)) (k : ℕ) (x s : f.Element) → now ≡ before → x ≡ s → HasCoset f before k s → HasCoset f now k x
-coset_there {F} f before now k x s same is has = subst (λ (xs : List (Coset F)). HasCoset f xs k x) (sym same) (subst (λ (y : f.Element). HasCoset f before k y) (sym is) has)
+coset_there : {F : Type 0} (f : FieldMembers F) (before now : List (Coset F)) (k : ℕ) (x s : f.Element) → now ≡ before
+    → x ≡ s → HasCoset f before k s → HasCoset f now k x
+coset_there {F} f before now k x s same is has =
+    subst (λ (xs : List (Coset F)). HasCoset f xs k x) (sym same)
+    (subst (λ (y : f.Element). HasCoset f before k y) (sym is) has)
 
 -- the list grows
 longer_list : {T : Type 0} (n : ℕ) (before after : List T) (x : T) → (after ≡ before) ⊎ (after ≡ before ++ x ∷ []) → n ≤ length before → n ≤ length after
@@ -34,7 +39,8 @@ longer_list n before after x (inl same) inside = omega (arith, ap length same, i
 longer_list n before after x (inr longer) inside = omega (arith, ap length longer, length-append before (x ∷ []), inside)
 
 -- by one table at most
-one_longer : {T : Type 0} (before after : List T) (x : T) → (after ≡ before) ⊎ (after ≡ before ++ x ∷ []) → (n slot : ℕ) → length before ≤ n + slot → length after ≤ n + (slot + 1)
+one_longer : {T : Type 0} (before after : List T) (x : T) → (after ≡ before) ⊎ (after ≡ before ++ x ∷ []) → (n slot : ℕ)
+    → length before ≤ n + slot → length after ≤ n + (slot + 1)
 one_longer before after x (inl same) n slot few = omega (arith, ap length same, few)
 one_longer before after x (inr longer) n slot few = omega (arith, ap length longer, length-append before (x ∷ []), few)
 
@@ -71,7 +77,13 @@ returns-in_err-place-clause-only g c =
 
 pub returns-in_err-place-clause-few : goal.returns-in_err-place-clause-few
 returns-in_err-place-clause-few g c =
-    omega (arith, c.loop-slot.invariant.few, ap length c.in_err-place.ensures.refused, c.loop-slot-test.true, few_slots _ c.args.added_bits c.slots_apart-slots.ensures)
+    omega (
+      arith,
+      c.loop-slot.invariant.few,
+      ap length c.in_err-place.ensures.refused,
+      c.loop-slot-test.true,
+      few_slots _ c.args.added_bits c.slots_apart-slots.ensures,
+    )
 
 pub returns-clause-few : goal.returns-clause-few
 returns-clause-few g c =
@@ -106,17 +118,23 @@ loop-slot-preserved g c =
           (subst (λ (x : field.Element). HasCoset field after k x) shift_is (c.in_ok-place.place, c.in_ok-place.ensures.made));
       others = λ p from below.
           none_behind_kept field before after _ k (length c.as_slice-there.result.now) (at (rev a p)) grown
-          (λ same. slots_differ field.ring gen g.met.F.TwoAdicField.roots_law k a s c.slots_apart-slots.result m p c.requires.within c.slots_apart-slots.ensures (omega (arith, from)) below (sym shift_is ∙ same))
+          (λ same. slots_differ field.ring gen g.met.F.TwoAdicField.roots_law k a s c.slots_apart-slots.result m p
+          c.requires.within c.slots_apart-slots.ensures (omega (arith, from)) below (sym shift_is ∙ same))
           (c.loop-slot.invariant.others p (omega (arith, from)) below);
       once = λ all.
           let same = c.loop-slot.invariant.once all in
           c.make_among.ensures.once (coset_there field _ _ k _ _ same shift_is (all (rev a m) (rev-lt a m))) ∙ same;
-      only = one_more field g.F.TwoAdicField.generator k a s c.args.self.now before after c.slot_shift-coset.result (rev a m) (rev-lt a m) shift_is grown c.loop-slot.invariant.only;
+      only =
+          one_more field g.F.TwoAdicField.generator k a s c.args.self.now before after c.slot_shift-coset.result
+          (rev a m) (rev-lt a m) shift_is grown c.loop-slot.invariant.only;
       keeps = λ n x has. kept n x (c.loop-slot.invariant.keeps n x has);
     }
 
 pub returns-clause-made : goal.returns-clause-made
 returns-clause-made g c i below =
     let field = g.F.Valued in
-    let (m, inside, is) = slot_of_coset field.ring (forward_root field g.F.TwoAdicField.generator) c.args.log_h c.args.added_bits (field.value c.args.shift) c.slots_apart-slots.result i c.slots_apart-slots.ensures below in
-    subst (λ (x : field.Element). HasCoset field c.loop-slot.self c.args.log_h x) is (c.loop-slot.invariant.made m (omega (arith, inside, c.loop-slot-test.false)))
+    let (m, inside, is) =
+    slot_of_coset field.ring (forward_root field g.F.TwoAdicField.generator) c.args.log_h c.args.added_bits
+    (field.value c.args.shift) c.slots_apart-slots.result i c.slots_apart-slots.ensures below in
+    subst (λ (x : field.Element). HasCoset field c.loop-slot.self c.args.log_h x) is
+    (c.loop-slot.invariant.made m (omega (arith, inside, c.loop-slot-test.false)))

@@ -18,7 +18,8 @@ invariant_of-self-2 g c =
     let field = g.F.Valued in
     let gen = g.F.TwoAdicField.generator in
     subst (λ (n : ℕ). (length c.in_ok-forward.forward.items ≡ 2 ^ mid_of n - 1) × (length c.in_ok-backward.backward.items ≡ 2 ^ mid_of n - 1)
-    × AreTwiddlesOfLayers field (mid_of n) (root_powers field gen false) c.in_ok-forward.forward.items × AreTwiddlesOfLayers field (mid_of n) (root_powers field gen true) c.in_ok-backward.backward.items
+    × AreTwiddlesOfLayers field (mid_of n) (root_powers field gen false) c.in_ok-forward.forward.items ×
+    AreTwiddlesOfLayers field (mid_of n) (root_powers field gen true) c.in_ok-backward.backward.items
     × (n ≤ g.F.TwoAdicField.TWO_ADICITY))
     (sym (only_made c.args.log_h _ _ _ c.if-log_h.false (c.log_h.ensures ∙ sym c.self.view_is) c.in_ok-make.ensures.made c.in_ok-make.ensures.only))
     (c.in_ok-forward.ensures.size, c.in_ok-backward.ensures.size, c.in_ok-forward.ensures.table, c.in_ok-backward.ensures.table, c.requires.within)
@@ -43,7 +44,11 @@ few_layers : (log : ℕ) → 2 ^ ((log + 1) / 2) ≤ 2 ^ log
 few_layers log = pow-le-pow_right {n = 2} (lit≤ tt) (omega arith)
 
 pub returns-in_err-forward-clause-room : goal.returns-in_err-forward-clause-room
-returns-in_err-forward-clause-room g c = room_of _ c.from_residual.result _ _ _ c.from_residual.ensures (omega (arith, few_layers c.args.log_h)) c.in_err-forward.ensures.room
+returns-in_err-forward-clause-room g c =
+    room_of _ c.from_residual.result _ _ _ c.from_residual.ensures (omega (arith, few_layers c.args.log_h))
+    c.in_err-forward.ensures.room
 
 pub returns-in_err-backward-clause-room : goal.returns-in_err-backward-clause-room
-returns-in_err-backward-clause-room g c = room_of _ c.from_residual-in_err-backward.result _ _ _ c.from_residual-in_err-backward.ensures (omega (arith, few_layers c.args.log_h)) c.in_err-backward.ensures.room
+returns-in_err-backward-clause-room g c =
+    room_of _ c.from_residual-in_err-backward.result _ _ _ c.from_residual-in_err-backward.ensures
+    (omega (arith, few_layers c.args.log_h)) c.in_err-backward.ensures.room
