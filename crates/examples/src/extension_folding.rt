@@ -7,7 +7,8 @@
 //! `fold_into_extension`, each later one by `fold` over the extension with the shift squared once for each layer before
 //! and embedded by `E::from_base`, and sends what `last_coefficients` answers.
 
-ghost use Rattle.std.specs.Prelude.{◌≡◌, ℕ, suc, ◌+◌, ◌*◌, ◌/◌, ◌^◌, ◌≤◌, IfErr, IfOk, length};
+ghost use Rattle.std.specs.Prelude.{◌≡◌, ℕ, suc, ◌+◌, ◌*◌, ◌/◌, ◌^◌, ◌≤◌, IfErr, IfOk, length, max};
+ghost use Rattle.std.specs.Mem.{type_size};
 ghost use Rattle.p3_field.specs.Ring.{IsInvertible};
 ghost use Rattle.p3_matrix.specs.Cosets.{values_of};
 ghost use Rattle.p3_matrix.specs.Room.{IsWithin, WasOutOfMemory};
@@ -30,7 +31,7 @@ pub fn embed<F: TwoAdicField, E: ExtensionField<F>>(
     values: &RowMajorMatrix<F>,
 ) -> Result<RowMajorMatrix<E>, DftError>
     ensures embedded { IfOk result (λ out. out ≡ embedded_matrix E.embedded values.now) }
-    ensures refused { IfErr result (IsWithin (length values.now.values)) }
+    ensures refused { IfErr result (IsWithin (type_size E.row) (length values.now.values)) }
 {
     let width = values.width();
     let mut embedded = growth::with_capacity(*values.allocator(), values.values().len())?;
@@ -82,7 +83,8 @@ pub fn last_coefficients<F: TwoAdicField, E: ExtensionField<F>, D: TwoAdicSubgro
     requires invertible { IsInvertible F.ring (F.value shift) }
     ensures coefficients { IfOk result (λ out. IsInterpolation E.Valued.own E.generator values
         (E.value (E.embedded shift)) out) }
-    ensures engine { AfterDft D.facts engine.old engine.new result (flat E.BasedVectorSpace.own values) 2 }
+    ensures engine { AfterDft D.facts (max (type_size F.row) (type_size E.row)) engine.old engine.new result
+        (flat E.BasedVectorSpace.own values) 2 }
 {
     engine.coset_idft_algebra_batch(values, shift)
 }

@@ -5,6 +5,7 @@
 //! the numbers and texts of the others.
 
 ghost use Rattle.std.specs.Prelude.{◌≡◌, ◌↔◌, ◌<◌, ◌≤◌, ℕ, IfOk, IfSome, IsNone, OnErr, Ok, map, get_or, vec_len};
+ghost use Rattle.std.specs.Mem.{type_size};
 ghost use Rattle.growth.specs.Refusals.{WasRefused};
 ghost use Rattle.p3_field.specs.Ring.{count, minus, power, product_of, sum_of};
 
@@ -76,7 +77,7 @@ pub fn first_powers<F: Field>(alloc: Global, base: F, start: F, n: usize) -> Res
     ensures long { IfOk result (λ v. vec_len v ≡ n) }
     ensures powers { IfOk result (λ v. (i : ℕ) → i < n → F.value (get_or v.items i F.zero)
         ≡ F.ring.mul (F.value start) (power F.ring (F.value base) i)) }
-    ensures room { OnErr result (WasRefused n) }
+    ensures room { OnErr result (WasRefused (type_size F.row) n) }
 {
     base.shifted_powers(start).collect_n(alloc, n)
 }

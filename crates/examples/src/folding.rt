@@ -8,6 +8,7 @@
 
 ghost use Rattle.std.specs.Prelude.{◌≡◌, ◌↔◌, ℕ, suc, ◌+◌, ◌*◌, ◌/◌, ◌^◌, ◌<◌, ◌≤◌, IfErr, IfOk, IsTrue};
 ghost use Rattle.std.specs.Prelude.{get_or, length, vec_len, vec_capacity};
+ghost use Rattle.std.specs.Mem.{type_size};
 ghost use Rattle.p3_field.specs.Ring.{IsInvertible, minus, two};
 ghost use Rattle.p3_matrix.specs.Cosets.{point, values_of};
 ghost use Rattle.p3_matrix.specs.Matrix.{Matrix, Same};
@@ -65,7 +66,7 @@ fn factors<F: TwoAdicField>(
     ensures factors { IfOk result (λ v. (i : ℕ) → i < 2 ^ log_half → F.ring.mul (two F.ring)
         (F.ring.mul (point F.ring (λ n. F.value (F.generator n)) (suc log_half) (F.value shift)
         (pair_point layout log_half i)) (F.value (get_or v.items i F.zero))) ≡ F.value beta) }
-    ensures refused { IfErr result (IsWithin half) }
+    ensures refused { IfErr result (IsWithin (type_size F.row) half) }
 {
     let root = invertible_root::<F>(log_half + 1).inverse();
     let first = beta.halve() * shift.inverse();
@@ -109,7 +110,7 @@ fn fold_rows<F: Field>(
         ((values_of F.Valued.own values.now).entry (near_row layout k i) j)
         ((values_of F.Valued.own values.now).entry (far_row layout k i) j)
         ((values_of F.Valued.own out).entry i j))) }
-    ensures refused { IfErr result (IsWithin (half * values.now.width)) }
+    ensures refused { IfErr result (IsWithin (type_size F.row) (half * values.now.width)) }
 {
     let width = values.width();
     let mut folded = growth::with_capacity(*values.allocator(), half * width)?;

@@ -6,6 +6,7 @@
 
 ghost use Rattle.std.specs.Prelude.{◌≡◌, ℕ, ◌+◌, ◌-◌, ◌*◌, ◌%◌, ◌^◌, ◌<◌, ◌≤◌, IfErr, IfOk, get_or, length, map};
 ghost use Rattle.std.specs.Prelude.{vec_len};
+ghost use Rattle.std.specs.Mem.{type_size};
 ghost use Rattle.p3_matrix.specs.Room.{IsWithin, WasOutOfMemory};
 ghost use Rattle.p3_matrix.specs.RowMajor.{height, rows_from};
 ghost use Rattle.examples.specs.MerkleTrees.{AreNodes, AreToldApartOnPath, climbed, tree};
@@ -71,7 +72,7 @@ pub fn path_of<F: Field, H: RowHash<F>>(
         → AreNodes H.worth (H.of_pair h) (2 ^ log_leaves) digest nodes.now
         → climbed (H.of_pair h) (2 ^ log_leaves + leaf) (digest leaf) (map H.worth path.items)
         ≡ H.worth (get_or nodes.now 1 d)) }
-    ensures refused { IfErr result (IsWithin log_leaves) }
+    ensures refused { IfErr result (IsWithin (type_size H.Digest.row) log_leaves) }
 {
     let mut path = growth::with_capacity(alloc, log_leaves)?;
     let mut node = nodes.len() / 2 + leaf;

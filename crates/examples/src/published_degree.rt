@@ -5,6 +5,7 @@
 //! of a polynomial with no more coefficients than the input has rows, and nowhere else; and it says yes.
 
 ghost use Rattle.std.specs.Prelude.{◌≡◌, ◌↔◌, ◌*◌, ◌^◌, IfErr, IfOk, IsTrue, length};
+ghost use Rattle.std.specs.Mem.{type_size};
 ghost use Rattle.p3_field.specs.Ring.{IsInvertible};
 ghost use Rattle.p3_matrix.specs.BitOrder.{reversed_rows};
 ghost use Rattle.p3_matrix.specs.Cosets.{values_of};
@@ -58,7 +59,8 @@ fn zeros_for<F: TwoAdicField>(
 ) -> Result<Vec<F>, DftError>
     requires { FitsLde F.TWO_ADICITY (height mat.now) mat.now.width added_bits }
     ensures size { IfOk result (λ zeros. length zeros.items ≡ (height mat.now * 2 ^ added_bits) * mat.now.width) }
-    ensures refused { IfErr result (IsWithin ((height mat.now * 2 ^ added_bits) * mat.now.width)) }
+    ensures refused { IfErr result
+        (IsWithin (type_size F.row) ((height mat.now * 2 ^ added_bits) * mat.now.width)) }
 {
     let rows = extended_height::<F>(mat.height(), mat.width(), added_bits);
     let mut zeros = Vec::new(*mat.allocator());

@@ -6,6 +6,7 @@
 //! the height's logarithm has a generator. That alone has a proof file.
 
 ghost use Rattle.std.specs.Prelude.{◌≡◌, ◌*◌, ◌^◌, ◌<◌, ◌≤◌, IfErr, IfOk, IfSome, IsNone, vec_capacity};
+ghost use Rattle.std.specs.Mem.{type_size};
 ghost use Rattle.p3_matrix.specs.BitOrder.{reversed_rows};
 ghost use Rattle.p3_matrix.specs.Room.{IsWithin, WasOutOfMemory};
 ghost use Rattle.p3_matrix.specs.RowMajor.{height};
@@ -47,7 +48,7 @@ fn filled<T: Copy>(
     requires counted { rows * columns < 2 ^ 64 }
     ensures height { IfOk result (λ mat. height mat ≡ rows) }
     ensures width { IfOk result (λ mat. mat.width ≡ columns) }
-    ensures refused { IfErr result (IsWithin (rows * columns)) }
+    ensures refused { IfErr result (IsWithin (type_size T.row) (rows * columns)) }
 {
     let mut values = Vec::new(alloc);
     growth::resize(&mut values, rows * columns, element)?;
@@ -63,7 +64,8 @@ pub fn room_for_extension<F: TwoAdicField>(
         (height mat.now * 2 ^ added_bits) * mat.now.width ≤ vec_capacity v)) }
     ensures none { IfOk result (λ found. IsNone found
         → ¬ (FitsLde F.TWO_ADICITY (height mat.now) mat.now.width added_bits)) }
-    ensures refused { IfErr result (IsWithin ((height mat.now * 2 ^ added_bits) * mat.now.width)) }
+    ensures refused { IfErr result
+        (IsWithin (type_size F.row) ((height mat.now * 2 ^ added_bits) * mat.now.width)) }
 {
     if !fits_lde::<F>(mat.height(), mat.width(), added_bits) {
         return Ok(None);

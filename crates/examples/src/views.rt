@@ -3,6 +3,7 @@
 //! Proved, with no proof file: each is the row of the extension that it is asked for.
 
 ghost use Rattle.std.specs.Prelude.{◌≡◌, ◌<◌, ◌≤◌, IfErr, IfOk, IfSome, IsNone};
+ghost use Rattle.std.specs.Mem.{type_size};
 ghost use Rattle.p3_matrix.specs.BitOrder.{reversed_rows};
 ghost use Rattle.p3_matrix.specs.Room.{IsWithin, WasOutOfMemory};
 ghost use Rattle.p3_matrix.specs.RowMajor.{height, row};
@@ -23,19 +24,19 @@ pub fn opened_row<F: Field>(
 ) -> Result<Vec<F>, DftError>
     requires { i < height rows.now.physical }
     ensures opened { IfOk result (λ opened. opened.items ≡ row (reversed_rows rows.now.bits rows.now.physical) i) }
-    ensures refused { IfErr result (IsWithin rows.now.physical.width) }
+    ensures refused { IfErr result (IsWithin (type_size F.row) rows.now.physical.width) }
 {
     Ok(growth::from_slice(*rows.inner().allocator(), rows.row(i))?)
 }
 
-/// A row of an extension over a named field, by its natural number.
+/// A row of an extension over a named field, whose elements take four bytes, by its natural number.
 pub fn opened_row_of_baby_bears(
     rows: &BitReversedMatrixView<RowMajorMatrix<BabyBear>>,
     i: usize,
 ) -> Result<Vec<BabyBear>, DftError>
     requires { i < height rows.now.physical }
     ensures opened { IfOk result (λ opened. opened.items ≡ row (reversed_rows rows.now.bits rows.now.physical) i) }
-    ensures refused { IfErr result (IsWithin rows.now.physical.width) }
+    ensures refused { IfErr result (IsWithin 4 rows.now.physical.width) }
 {
     Ok(growth::from_slice(*rows.inner().allocator(), rows.row(i))?)
 }

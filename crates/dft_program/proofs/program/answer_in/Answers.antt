@@ -11,8 +11,8 @@ use Rattle.dft_program.specs.Outcome.{FaultOr, IsAnswered}
 use Rattle.dft_program.proofs.ValuedJobs.{can_run, text_of_answer}
 use Rattle.dft_program.proofs.program.answer_in.Goals as goal
 
-pub answer_by-requires : goal.answer_by-requires
-answer_by-requires g c =
+pub answer_by-requires-clause-runnable : goal.answer_by-requires-clause-runnable
+answer_by-requires-clause-runnable g c =
     let arguments = c.in_ok-arguments.arguments in
     let matrix = c.in_ok-matrix.matrix in
     let bits = g.F.TwoAdicField.TWO_ADICITY in

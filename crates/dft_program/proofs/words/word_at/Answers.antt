@@ -1,3 +1,4 @@
+use Rattle.std.proofs.Common.{arith}
 use Rattle.dft_program.proofs.Refused.{refused_by}
 use Rattle.dft_program.proofs.words.word_at.Goals as goal
 

@@ -1,4 +1,4 @@
-use Rattle.std.proofs.Common.{[], ◌∷◌, ◌++◌, ap, length}
+use Rattle.std.proofs.Common.{[], ◌∷◌, ◌++◌, ap, length, arith}
 use Rattle.std.specs.String.{string_bytes}
 use Rattle.std.specs.Vec.{vec_items}
 use Rattle.dft_program.proofs.Told.{maybe_one_more, on_err, one_kept, one_told}

@@ -124,10 +124,10 @@ returns-clause-shapes g c = λ l y below.
     )
 
 pub returns-in_err-layers-clause-refused : goal.returns-in_err-layers-clause-refused
-returns-in_err-layers-clause-refused g c = told_by_growth c.from_residual.result _ _ c.from_residual.ensures c.in_err-layers.ensures.room
+returns-in_err-layers-clause-refused g c = told_by_growth c.from_residual.result _ _ _ c.from_residual.ensures c.in_err-layers.ensures.room
 
 pub returns-in_err-roots-clause-refused : goal.returns-in_err-roots-clause-refused
-returns-in_err-roots-clause-refused g c = told_by_growth c.from_residual-in_err-roots.result _ _ c.from_residual-in_err-roots.ensures c.in_err-roots.ensures.room
+returns-in_err-roots-clause-refused g c = told_by_growth c.from_residual-in_err-roots.result _ _ _ c.from_residual-in_err-roots.ensures c.in_err-roots.ensures.room
 
 pub returns-in_err-challenges-clause-refused : goal.returns-in_err-challenges-clause-refused
-returns-in_err-challenges-clause-refused g c = told_by_growth c.from_residual-in_err-challenges.result _ _ c.from_residual-in_err-challenges.ensures c.in_err-challenges.ensures.room
+returns-in_err-challenges-clause-refused g c = told_by_growth c.from_residual-in_err-challenges.result _ _ _ c.from_residual-in_err-challenges.ensures c.in_err-challenges.ensures.room

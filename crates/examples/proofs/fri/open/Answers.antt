@@ -105,4 +105,4 @@ returns-clause-folds g c = λ h s betas last are o.
     inv.folds l (some_element layers l below) o (within l below) h _ _ _ (rw (codeword l below, tree l below) at here)))
 
 pub returns-in_err-openings-clause-refused : goal.returns-in_err-openings-clause-refused
-returns-in_err-openings-clause-refused g c = told_by_growth c.from_residual.result _ _ c.from_residual.ensures c.in_err-openings.ensures.room
+returns-in_err-openings-clause-refused g c = told_by_growth c.from_residual.result _ _ _ c.from_residual.ensures c.in_err-openings.ensures.room

@@ -46,4 +46,4 @@ returns-clause-folds g c = λ h s beta next is.
     (pair_folds f m c.allocator-alloc.ensures.whole c.args.log_half i is.height c.requires.inside gen beta s next (subst IsRowMajor c.view_rows-rows.ensures c.values.ensures.whole) is.folds)
 
 pub returns-in_err-from_slice-clause-refused : goal.returns-in_err-from_slice-clause-refused
-returns-in_err-from_slice-clause-refused g c = told_by_growth c.from_residual.result _ _ c.from_residual.ensures c.in_err-from_slice.ensures.room
+returns-in_err-from_slice-clause-refused g c = told_by_growth c.from_residual.result _ _ _ c.from_residual.ensures c.in_err-from_slice.ensures.room

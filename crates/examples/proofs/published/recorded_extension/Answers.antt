@@ -22,4 +22,4 @@ returns-in-Ok-clause-recorded g c = λ k e.
     (c.in-Ok.ensures.published k e)
 
 pub returns-in-OutOfMemory-clause-refused : goal.returns-in-OutOfMemory-clause-refused
-returns-in-OutOfMemory-clause-refused g c = (_, rw c.in-OutOfMemory.is at c.in-Err.ensures.engine.refused)
+returns-in-OutOfMemory-clause-refused g c = (_, _, _, _, rw c.in-OutOfMemory.is at c.in-Err.ensures.engine.refused)

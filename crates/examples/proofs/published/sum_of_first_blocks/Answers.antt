@@ -26,4 +26,4 @@ returns-in-Ok-clause-none g c = λ empty k e.
     (λ s made. let all : s.left ≡ c.args.limit = search of_calls in all) (c.in-Ok.ensures.published k e))
 
 pub returns-in-OutOfMemory-clause-refused : goal.returns-in-OutOfMemory-clause-refused
-returns-in-OutOfMemory-clause-refused g c = (_, rw c.in-OutOfMemory.is at c.in-Err.ensures.engine.refused)
+returns-in-OutOfMemory-clause-refused g c = (_, _, _, _, rw c.in-OutOfMemory.is at c.in-Err.ensures.engine.refused)

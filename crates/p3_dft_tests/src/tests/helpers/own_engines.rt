@@ -52,6 +52,7 @@ impl Clone for LimitedDft {
 impl<F: TwoAdicField> TwoAdicSubgroupDft<F> for LimitedDft {
     ghost use Rattle.std.specs.Prelude.{⊤, ℕ, ◌+◌, ◌*◌, ◌^◌};
     ghost use Rattle.std.proofs.Common.{refl, rules};
+    ghost use Rattle.std.specs.Mem.{type_size};
     ghost use Rattle.p3_dft.specs.Engines.{plain_facts};
     ghost use Rattle.p3_dft.specs.declared.traits.Layout.TheVariants.{BitReversed};
 
@@ -61,9 +62,10 @@ impl<F: TwoAdicField> TwoAdicSubgroupDft<F> for LimitedDft {
 
     ghost LAYOUT = { BitReversed };
 
-    // It asks for more memory than there is, which it has to say.
+    // It keeps no tables, and asks for more elements than memory holds: the list that it names is of these.
     ghost facts = { record (plain_facts (λ _ _. ⊥) (λ _ _ _. ⊤) (λ _ _. ⊤) (λ k w. 2 ^ k * 2 ^ k * w) (λ e. e.sums)) {
-      more_room = λ e. 2 ^ 64;
+      tables = λ e. 2 ^ 64;
+      table_bytes = type_size F.row;
     } };
 
     ghost laws = { record {
