@@ -1,5 +1,6 @@
 /* Answers the cases that tools/check_callers makes. A line has FIELD ENGINE CALL THREADS WIDTH ADDED SHIFT OUT_LEN
- * COUNT and then COUNT numbers; its answer is a status and, where that is 0, numbers. Threads are not C's.
+ * COUNT and then COUNT numbers; its answer is a status and, where that is 0, numbers. With -DPARALLEL the calls are
+ * those of liktrob_parallel.h, on so many threads.
  *
  * Each matrix lies in a block of its own size, so that AddressSanitizer and valgrind see a read or a write beyond it.
  */
@@ -8,12 +9,18 @@
 #include <stdlib.h>
 #include <string.h>
 
+#ifdef PARALLEL
+#include "liktrob_parallel.h"
+#define CALL(FIELD, NAME, ...) liktrob_parallel_##FIELD##_##NAME(__VA_ARGS__, c->threads)
+#else
 #include "liktrob.h"
+#define CALL(FIELD, NAME, ...) liktrob_##FIELD##_##NAME(__VA_ARGS__)
+#endif
 
 struct call {
     uint32_t engine;
     char name[32];
-    size_t width, added_bits, out_len, count;
+    size_t threads, width, added_bits, out_len, count;
     uint64_t shift;
 };
 
@@ -50,15 +57,14 @@ static void changed(void) {
         WORD shift = (WORD)c->shift;                                                                                   \
         size_t n = c->count, w = c->width, bits = c->added_bits, m = c->out_len;                                       \
         if (shift != c->shift) exit(71);                                                                               \
-        if (is(c, "coset_dft")) return liktrob_##FIELD##_coset_dft(c->engine, words, n, w, shift);                     \
-        if (is(c, "coset_idft")) return liktrob_##FIELD##_coset_idft(c->engine, words, n, w, shift);                   \
-        if (is(c, "coset_lde")) return liktrob_##FIELD##_coset_lde(c->engine, words, n, w, bits, shift, out, m);       \
+        if (is(c, "coset_dft")) return CALL(FIELD, coset_dft, c->engine, words, n, w, shift);                          \
+        if (is(c, "coset_idft")) return CALL(FIELD, coset_idft, c->engine, words, n, w, shift);                        \
+        if (is(c, "coset_lde")) return CALL(FIELD, coset_lde, c->engine, words, n, w, bits, shift, out, m);            \
         if (is(c, "coset_lde_bit_reversed"))                                                                           \
-            return liktrob_##FIELD##_coset_lde_bit_reversed(c->engine, words, n, w, bits, shift, out, m);              \
+            return CALL(FIELD, coset_lde_bit_reversed, c->engine, words, n, w, bits, shift, out, m);                   \
         if (is(c, "coset_dft_padded"))                                                                                 \
-            return liktrob_##FIELD##_coset_dft_padded(c->engine, words, n, w, bits, shift, out, m);                    \
-        if (is(c, "is_codeword"))                                                                                      \
-            return liktrob_##FIELD##_is_codeword(c->engine, words, n, w, bits, shift, answer);                         \
+            return CALL(FIELD, coset_dft_padded, c->engine, words, n, w, bits, shift, out, m);                         \
+        if (is(c, "is_codeword")) return CALL(FIELD, is_codeword, c->engine, words, n, w, bits, shift, answer);        \
         exit(71);                                                                                                      \
     }                                                                                                                  \
                                                                                                                        \
@@ -90,8 +96,8 @@ ANSWER(goldilocks, uint64_t)
 int main(void) {
     char field[32];
     struct call c;
-    while (scanf("%31s %" SCNu32 " %31s %*u %zu %zu %" SCNu64 " %zu %zu", field, &c.engine, c.name, &c.width,
-                 &c.added_bits, &c.shift, &c.out_len, &c.count) == 8) {
+    while (scanf("%31s %" SCNu32 " %31s %zu %zu %zu %" SCNu64 " %zu %zu", field, &c.engine, c.name, &c.threads,
+                 &c.width, &c.added_bits, &c.shift, &c.out_len, &c.count) == 9) {
         if (strcmp(field, "baby_bear") == 0) answer_baby_bear(&c);
         else if (strcmp(field, "koala_bear") == 0) answer_koala_bear(&c);
         else if (strcmp(field, "goldilocks") == 0) answer_goldilocks(&c);

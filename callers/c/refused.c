@@ -5,12 +5,20 @@
  * block may be left behind.
  *
  *     cc refused.c libliktrob.a -Wl,--wrap=malloc,--wrap=realloc,--wrap=free
+ *
+ * With -DPARALLEL the calls are those of liktrob_parallel.h, on three threads.
  */
 #include <stdio.h>
 #include <stdlib.h>
 #include <string.h>
 
+#ifdef PARALLEL
+#include "liktrob_parallel.h"
+#define LIKTROB(FIELD, NAME, ...) liktrob_parallel_##FIELD##_##NAME(__VA_ARGS__, 3)
+#else
 #include "liktrob.h"
+#define LIKTROB(FIELD, NAME, ...) liktrob_##FIELD##_##NAME(__VA_ARGS__)
+#endif
 
 void *__real_malloc(size_t n);
 void *__real_realloc(void *block, size_t n);
@@ -20,27 +28,30 @@ void __real_free(void *block);
 static long first_refused, last_refused;
 static long requests, refusals, open_blocks;
 
+/* Threads may ask at the same time. */
+static long add(long *count, int added) { return __atomic_fetch_add(count, added, __ATOMIC_SEQ_CST); }
+
 static int is_refused(void) {
-    long request = requests++;
+    long request = add(&requests, 1);
     int is = first_refused <= request && request <= last_refused;
-    refusals += is;
+    add(&refusals, is);
     return is;
 }
 
 void *__wrap_malloc(size_t n) {
     if (is_refused()) return NULL;
-    open_blocks++;
+    add(&open_blocks, 1);
     return __real_malloc(n);
 }
 
 void *__wrap_realloc(void *block, size_t n) {
     if (is_refused()) return NULL;
-    open_blocks += block == NULL;
+    add(&open_blocks, block == NULL);
     return __real_realloc(block, n);
 }
 
 void __wrap_free(void *block) {
-    open_blocks -= block != NULL;
+    add(&open_blocks, -(block != NULL));
     __real_free(block);
 }
 
@@ -67,12 +78,12 @@ static const char *const names[CALLS] = {"coset_dft",        "coset_idft",  "cos
         WORD *words = state->words.as_##WORD, *out = state->out.as_##WORD;                                             \
         size_t len = HEIGHT * width, out_len = len << ADDED;                                                           \
         switch (call) {                                                                                                \
-        case 0: return liktrob_##FIELD##_coset_dft(engine, words, len, width, 31);                                     \
-        case 1: return liktrob_##FIELD##_coset_idft(engine, words, len, width, 31);                                    \
-        case 2: return liktrob_##FIELD##_coset_lde(engine, words, len, width, ADDED, 31, out, out_len);                \
-        case 3: return liktrob_##FIELD##_coset_lde_bit_reversed(engine, words, len, width, ADDED, 31, out, out_len);   \
-        case 4: return liktrob_##FIELD##_coset_dft_padded(engine, words, len, width, ADDED, 31, out, out_len);         \
-        default: return liktrob_##FIELD##_is_codeword(engine, words, len, width, ADDED, 31, &state->answer);           \
+        case 0: return LIKTROB(FIELD, coset_dft, engine, words, len, width, 31);                                       \
+        case 1: return LIKTROB(FIELD, coset_idft, engine, words, len, width, 31);                                      \
+        case 2: return LIKTROB(FIELD, coset_lde, engine, words, len, width, ADDED, 31, out, out_len);                  \
+        case 3: return LIKTROB(FIELD, coset_lde_bit_reversed, engine, words, len, width, ADDED, 31, out, out_len);     \
+        case 4: return LIKTROB(FIELD, coset_dft_padded, engine, words, len, width, ADDED, 31, out, out_len);           \
+        default: return LIKTROB(FIELD, is_codeword, engine, words, len, width, ADDED, 31, &state->answer);             \
         }                                                                                                              \
     }                                                                                                                  \
                                                                                                                        \

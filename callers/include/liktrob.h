@@ -27,9 +27,19 @@
 #include <stddef.h>
 #include <stdint.h>
 
+/* The version of this header, which tools/build_library writes here. liktrob_version() is that of the library: the two
+ * are one text where they belong together. */
+#define LIKTROB_VERSION "@VERSION@"
+#define LIKTROB_VERSION_MAJOR @VERSION_MAJOR@
+#define LIKTROB_VERSION_MINOR @VERSION_MINOR@
+#define LIKTROB_VERSION_PATCH @VERSION_PATCH@
+#define LIKTROB_VERSION_BUILD @VERSION_BUILD@
+
 #ifdef __cplusplus
 extern "C" {
 #endif
+
+const char *liktrob_version(void);
 
 enum liktrob_status {
     LIKTROB_OK = 0,     /* answered */

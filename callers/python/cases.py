@@ -1,5 +1,5 @@
 """Answers the cases that tools/check_callers makes. A line has FIELD ENGINE CALL THREADS WIDTH ADDED SHIFT OUT_LEN and
-then the numbers; its answer is a status and, where that is 0, numbers. Threads are none of this module's."""
+then the numbers; its answer is a status and, where that is 0, numbers."""
 
 import array
 import sys
@@ -9,9 +9,9 @@ import liktrob
 FIELDS = {"baby_bear": liktrob.baby_bear, "koala_bear": liktrob.koala_bear, "goldilocks": liktrob.goldilocks}
 
 
-def answer_of(field, engine, call, width, added_bits, shift, out_len, words):
+def answer_of(field, engine, call, threads, width, added_bits, shift, out_len, words):
     """The numbers that the call answers."""
-    others = {"width": width, "engine": engine}
+    others = {"width": width, "engine": engine, "threads": threads}
     if call in ("coset_dft", "coset_idft"):
         if shift == 1:
             getattr(field, call.removeprefix("coset_"))(words, **others)
@@ -35,11 +35,11 @@ def answer_of(field, engine, call, width, added_bits, shift, out_len, words):
 
 def main():
     for line in sys.stdin:
-        field, engine, call, _, width, added_bits, shift, out_len, *numbers = line.split()
+        field, engine, call, threads, width, added_bits, shift, out_len, *numbers = line.split()
         field = FIELDS[field]
         words = field.array(map(int, numbers))
         before = words[:]
-        given = int(width), int(added_bits), int(shift), int(out_len)
+        given = int(threads), int(width), int(added_bits), int(shift), int(out_len)
         try:
             print(0, *answer_of(field, int(engine), call, *given, words))
         except liktrob.LiktrobError as error:

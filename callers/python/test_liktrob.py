@@ -6,8 +6,12 @@ What the calls answer is tested by tools/check_callers.
 """
 
 import array
+import contextlib
 import ctypes
 import importlib.util
+import multiprocessing
+import pickle
+import threading
 import unittest
 
 import liktrob
@@ -84,11 +88,14 @@ class Buffers(unittest.TestCase):
             memoryview(bytearray(25))[1:].cast("I"),
             memoryview(array.array("I", GIVEN)).toreadonly(),
             GIVEN,
+            tuple(GIVEN),
             None,
         ]:
             for call in [baby_bear.dft, koala_bear.idft]:
                 with self.assertRaises(TypeError, msg=repr(words)):
                     call(words, width=3)
+        with self.assertRaisesRegex(TypeError, r"liktrob\.baby_bear\.array\(numbers\), and not a list"):
+            baby_bear.dft(GIVEN, width=3)
         for words in [array.array("I", GIVEN), array.array("d", GIVEN), array.array("q", GIVEN)]:
             with self.assertRaises(TypeError, msg=repr(words)):
                 goldilocks.dft(words, width=3)
@@ -99,6 +106,32 @@ class Buffers(unittest.TestCase):
         self.assertTrue(baby_bear.is_codeword(words, 0, 1))
         with self.assertRaises(TypeError):
             baby_bear.lde(array.array("I", [9, 1]), 1, out=memoryview(array.array("I", [0] * 4)).toreadonly())
+
+    def test_a_list_is_read_and_answered_by_words(self):
+        for numbers in [[9, 1], (9, 1)]:
+            found = baby_bear.coset_lde(numbers, 1, 31)
+            self.assertEqual((found.typecode, found[0]), ("I", 5 + 4 * 31))
+            self.assertTrue(baby_bear.is_codeword(numbers, 0, 1))
+            for number in [2**31, 2**32 + 1, -1]:
+                with self.assertRaises(LiktrobError) as caught:
+                    baby_bear.lde([*numbers, number, 0], 1)
+                self.assertEqual(caught.exception.status, Status.NUMBER)
+
+    @unittest.skipUnless(importlib.util.find_spec("numpy"), "there is no numpy")
+    def test_a_numpy_array_is_answered_by_one(self):
+        import numpy
+
+        words = numpy.array([[9, 5], [1, 5]], dtype=numpy.uint32)
+        for call in [baby_bear.coset_lde, baby_bear.coset_lde_bit_reversed]:
+            found = call(words, 1, 31)
+            self.assertEqual((type(found), found.dtype, found.shape), (numpy.ndarray, numpy.uint32, (4, 2)))
+            self.assertEqual(found[0].tolist(), [5 + 4 * 31, 5])
+        found = goldilocks.coset_dft_padded(numpy.array([5, 4], dtype=numpy.uint64), 1, 7)
+        self.assertEqual((found.dtype, found.shape, found[0]), (numpy.uint64, (4,), 5 + 4 * 7))
+        out = array.array("I", [0] * 8)
+        self.assertIs(baby_bear.coset_lde(words, 1, 31, out=out), out)
+        with self.assertRaises(LiktrobError):
+            baby_bear.lde(numpy.zeros((3, 2), numpy.uint32), 1)
 
     def test_an_output_is_filled_and_answered(self):
         out = array.array("I", [7] * 4)
@@ -187,7 +220,7 @@ class Faults(unittest.TestCase):
     def test_memory_that_is_refused_is_a_memory_error_after_other_faults(self):
         class Refused(liktrob.Field):
             def _count_of_extension(self, words, added_bits, width):
-                return 1 << 60
+                return 1 << 60, 1
 
         field = Refused(liktrob._LIBRARY, "goldilocks", "Q", ctypes.c_uint64, 2**64 - 2**32 + 1, 7, 32)
         with self.assertRaises(MemoryError):
@@ -198,9 +231,86 @@ class Faults(unittest.TestCase):
             self.assertEqual(caught.exception.status, status)
 
 
+class Pickled(unittest.TestCase):
+    def test_errors_and_fields_are_pickled(self):
+        for status in [Status.ENGINE, Status.NUMBER, Status.SHAPE, Status.SHIFT]:
+            error = pickle.loads(pickle.dumps(LiktrobError(status)))
+            self.assertEqual((type(error), error.status), (LiktrobError, status))
+            self.assertEqual(str(error), str(LiktrobError(status)))
+        for field in FIELDS:
+            self.assertIs(pickle.loads(pickle.dumps(field)), field)
+
+    def test_a_faulty_call_does_not_stop_a_pool_of_processes(self):
+        with multiprocessing.get_context("spawn").Pool(1) as pool:
+            with self.assertRaises(LiktrobError) as caught:
+                pool.apply_async(baby_bear.two_adic_generator, [28]).get(60)
+            self.assertEqual(caught.exception.status, Status.SHAPE)
+            self.assertEqual(pool.apply_async(baby_bear.two_adic_generator, [27]).get(60), 0x1A427A41)
+
+
+class Threads(unittest.TestCase):
+    def test_the_interpreters_lock_is_released(self):
+        # PyDLL, of which this is the base, keeps it.
+        self.assertIs(type(liktrob._LIBRARY), ctypes.CDLL)
+
+    def test_a_buffer_is_not_resized_during_a_call(self):
+        words = baby_bear.array([1]) * 2**11
+        was_refused = threading.Event()
+
+        def call():
+            for _ in range(200):
+                # A call may find the buffer as it is between the two lines below, of another length.
+                with contextlib.suppress(LiktrobError):
+                    baby_bear.dft(words, engine=Engine.NAIVE_DFT)
+                if was_refused.is_set():
+                    break
+
+        caller = threading.Thread(target=call)
+        caller.start()
+        while caller.is_alive() and not was_refused.is_set():
+            try:
+                words.append(1)
+                words.pop()
+            except BufferError:
+                was_refused.set()
+        caller.join()
+        self.assertTrue(was_refused.is_set())
+
+    def test_all_threads_answer_the_same(self):
+        for field in FIELDS:
+            words = field.array(pow(5, i, 1009) for i in range(3 << 15))
+            for number, call in enumerate(calls_of(field)):
+                with self.subTest(field=field, call=number):
+                    answers = []
+                    for threads in [1, 2, 4, 7]:
+                        given = words[:]
+                        answers.append((call(given, 3, 1, width=3, threads=threads), given))
+                    self.assertEqual(answers[1:], answers[:1] * 3)
+
+    def test_threads_are_one_or_more(self):
+        for threads in [0, -1, -(2**64)]:
+            with self.assertRaises(ValueError):
+                baby_bear.dft(baby_bear.array([1, 2]), threads=threads)
+        words = baby_bear.array([9, 1])
+        baby_bear.idft(words, threads=2**70)
+        self.assertEqual(list(words), [5, 4])
+
+
 class Library(unittest.TestCase):
-    def test_the_interpreters_lock_is_kept(self):
-        self.assertIs(type(liktrob._LIBRARY), ctypes.PyDLL)
+    def test_the_library_is_of_the_modules_version(self):
+        self.assertEqual(liktrob._LIBRARY.liktrob_version().decode(), liktrob.__version__)
+
+    @unittest.skipUnless(importlib.util.find_spec("numpy"), "there is no numpy")
+    def test_whole_numbers_of_numpy_are_taken(self):
+        import numpy
+
+        two = numpy.int64(2)
+        self.assertEqual(baby_bear.two_adic_generator(two), baby_bear.two_adic_generator(2))
+        words = [9, 1, 9, 1]
+        self.assertEqual(
+            baby_bear.coset_lde(words, two, two, width=two, engine=two, threads=two),
+            baby_bear.coset_lde(words, 2, 2, width=2, engine=2, threads=2),
+        )
 
     def test_statuses_and_engines_have_the_numbers_of_the_header(self):
         header = liktrob.pathlib.Path(__file__).resolve().parent.parent / "include/liktrob.h"
