@@ -6,6 +6,7 @@ pub mod Limits
 pub mod MerklePaths
 pub mod MerkleTrees
 pub mod OppositeEntries
+pub mod Parts
 pub mod Quadratics
 pub mod Queries
 pub mod Refusals

@@ -5,6 +5,7 @@
 #![tactic(auto)]
 
 pub mod agreement;
+pub mod by_parts;
 pub mod closures;
 pub mod extended;
 pub mod extension;
