@@ -1,4 +1,5 @@
 -- The trait's calls over stored matrices: shapes, transforms, inverses and extensions as its bodies make them, and call after call.
+pub mod ColumnCosets
 pub mod Columns
 pub mod Coordinates
 pub mod Counts

@@ -7,6 +7,7 @@
 
 mod algebra;
 pub mod blocks;
+pub mod columns;
 pub mod jobs;
 pub mod naive;
 pub mod points;
@@ -20,6 +21,7 @@ pub mod traits;
 pub mod util;
 
 pub use blocks::{BlocksStopped, Unpublished};
+pub use columns::{coset_dft_columns, coset_idft_columns};
 pub use growth;
 pub use growth::Refused;
 pub use jobs::{Job, JobsStopped, run_jobs};
