@@ -43,7 +43,8 @@ found_where_some (Some x) P some told = told
 found_where_some None P some told = absurd (true≢false some)
 
 -- an engine that keeps no list of tables tells of field elements, as one with tables does
-pub without_tables : {A : Type 0} (s n m bytes more : ℕ) (r : Result A DftError) → m ≤ more → IfErr r (IsWithinEither s n 0 m) → IfErr r (IsWithinEither s n bytes more)
+pub without_tables : {A : Type 0} (s n m bytes more : ℕ) (r : Result A DftError) → m ≤ more → IfErr r (IsWithinEither s n 0 m)
+    → IfErr r (IsWithinEither s n bytes more)
 without_tables s n m bytes more (Ok x) fewer within = tt
 without_tables s n m bytes more (Err e) fewer (inl within) = inl within
 without_tables s n m bytes more (Err e) fewer (inr within) = inr (within_larger 0 bytes m more (omega arith) fewer e within)

@@ -22,7 +22,7 @@ abbrev pub refusal_of : {T : Type 0} → Result T Refusal → Option Refusal
 refusal_of (Ok x) = None
 refusal_of (Err refusal) = Some refusal
 
--- memory was refused to a vector of no more field elements than the larger one of what is handed over and the answer has, or to a list of the tables of an extension's cosets
+-- memory was refused to a vector of at most so many field elements, or to a list of the tables of an extension's cosets
 abbrev pub IsOutOfMemory : RattleType → (entries added_bits : ℕ) → DftError → Type 0
 IsOutOfMemory F entries added_bits = IsWithinEither (type_size F) entries (coset_table_bytes F) (2 ^ added_bits + 2)
 
