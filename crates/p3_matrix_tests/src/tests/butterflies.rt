@@ -265,9 +265,19 @@ pub(crate) fn rows_of_butterflies<F: CanonicalField>(rt: &impl Abort, alloc: Glo
     rows_like_elements::<F, TwiddleFreeButterfly>(rt, alloc, TwiddleFreeButterfly, 1000003);
 }
 
+// Packs of eight lanes, of sixteen, and of four that go one after another.
+const FIELDS_BY_PACKS: [FieldName; 6] = [
+    FieldName::BabyBear,
+    FieldName::KoalaBear,
+    FieldName::Goldilocks,
+    FieldName::WideBabyBear,
+    FieldName::WideKoalaBear,
+    FieldName::WideGoldilocks,
+];
+
 #[test]
 fn applies_to_rows(rt: HostRuntime) {
-    for field in [FieldName::BabyBear, FieldName::Goldilocks] {
+    for field in FIELDS_BY_PACKS {
         over(&rt, rt.alloc(), field, Topic::RowsOfButterflies);
     }
 }
@@ -354,41 +364,46 @@ pub(crate) fn rows_by_place<F: CanonicalField>(rt: &impl Abort, alloc: Global) {
 
 #[test]
 fn twiddles_by_place_agree_with_single_ones(rt: HostRuntime) {
-    over(&rt, rt.alloc(), FieldName::BabyBear, Topic::TwiddlesByPlace);
+    for field in FIELDS_BY_PACKS {
+        over(&rt, rt.alloc(), field, Topic::TwiddlesByPlace);
+    }
 }
 
-// A row of a pack and three more entries, whose sums and differences wrap around the modulus.
+// A row of one pack of sixteen lanes, or of two of eight, and three more entries, whose sums and differences wrap
+// around the modulus.
 pub(crate) fn wraps<F: CanonicalField>(rt: &impl Abort, alloc: Global) {
-    let mut row_1: Vec<F> = row(rt, alloc, 11, 2013265920, 0);
-    let mut row_2: Vec<F> = row(rt, alloc, 11, 1, 0);
+    let mut row_1: Vec<F> = row(rt, alloc, 19, 2013265920, 0);
+    let mut row_2: Vec<F> = row(rt, alloc, 19, 1, 0);
     TwiddleFreeButterfly.apply_to_rows(
         row_1.as_mut_slice(),
         row_2.as_mut_slice(),
         &mut Products::new(),
     );
-    same_rows(rt, &row_1, &row(rt, alloc, 11, 0, 0));
-    same_rows(rt, &row_2, &row(rt, alloc, 11, 2013265919, 0));
+    same_rows(rt, &row_1, &row(rt, alloc, 19, 0, 0));
+    same_rows(rt, &row_2, &row(rt, alloc, 19, 2013265919, 0));
 }
 
 #[test]
 fn wraps_in_each_lane(rt: HostRuntime) {
-    over(&rt, rt.alloc(), FieldName::BabyBear, Topic::Wraps);
+    for field in [FieldName::BabyBear, FieldName::WideBabyBear] {
+        over(&rt, rt.alloc(), field, Topic::Wraps);
+    }
 }
 
-// On rows of eleven a butterfly with a twiddle counts eleven products, in place.
-fn counts_eleven<F: CanonicalField>(row_1: &mut [F], row_2: &mut [F], products: &mut Products)
-    requires first { length row_1.old ≡ 11 }
-    requires second { length row_2.old ≡ 11 }
-    ensures { products.new ≡ products.old + 11 }
+// On rows of nineteen a butterfly with a twiddle counts nineteen products, in place.
+fn counts_nineteen<F: CanonicalField>(row_1: &mut [F], row_2: &mut [F], products: &mut Products)
+    requires first { length row_1.old ≡ 19 }
+    requires second { length row_2.old ≡ 19 }
+    ensures { products.new ≡ products.old + 19 }
 {
     DitButterfly(F::from_u8(3)).apply_to_rows(row_1, row_2, products);
 }
 
 // With a scale too it counts twice as many.
-fn counts_twenty_two<F: CanonicalField>(row_1: &mut [F], row_2: &mut [F], products: &mut Products)
-    requires first { length row_1.old ≡ 11 }
-    requires second { length row_2.old ≡ 11 }
-    ensures { products.new ≡ products.old + 22 }
+fn counts_thirty_eight<F: CanonicalField>(row_1: &mut [F], row_2: &mut [F], products: &mut Products)
+    requires first { length row_1.old ≡ 19 }
+    requires second { length row_2.old ≡ 19 }
+    ensures { products.new ≡ products.old + 38 }
 {
     let butterfly = ScaledDitButterfly::new(F::from_u8(3), F::TWO);
     butterfly.apply_to_rows(row_1, row_2, products);
@@ -397,19 +412,21 @@ fn counts_twenty_two<F: CanonicalField>(row_1: &mut [F], row_2: &mut [F], produc
 // One after the other, of minus one and one: two and minus four first, then minus twenty and 28.
 pub(crate) fn counts<F: CanonicalField>(rt: &impl Abort, alloc: Global) {
     let mut products = Products::new();
-    let mut row_1: Vec<F> = row(rt, alloc, 11, 2013265920, 0);
-    let mut row_2: Vec<F> = row(rt, alloc, 11, 1, 0);
-    counts_eleven(row_1.as_mut_slice(), row_2.as_mut_slice(), &mut products);
-    same_rows(rt, &row_1, &row(rt, alloc, 11, 2, 0));
-    same_rows(rt, &row_2, &row(rt, alloc, 11, 2013265917, 0));
-    counts_twenty_two(row_1.as_mut_slice(), row_2.as_mut_slice(), &mut products);
-    same_rows(rt, &row_1, &row(rt, alloc, 11, 2013265901, 0));
-    same_rows(rt, &row_2, &row(rt, alloc, 11, 28, 0));
+    let mut row_1: Vec<F> = row(rt, alloc, 19, 2013265920, 0);
+    let mut row_2: Vec<F> = row(rt, alloc, 19, 1, 0);
+    counts_nineteen(row_1.as_mut_slice(), row_2.as_mut_slice(), &mut products);
+    same_rows(rt, &row_1, &row(rt, alloc, 19, 2, 0));
+    same_rows(rt, &row_2, &row(rt, alloc, 19, 2013265917, 0));
+    counts_thirty_eight(row_1.as_mut_slice(), row_2.as_mut_slice(), &mut products);
+    same_rows(rt, &row_1, &row(rt, alloc, 19, 2013265901, 0));
+    same_rows(rt, &row_2, &row(rt, alloc, 19, 28, 0));
 }
 
 #[test]
 fn products_of_rows_are_counted(rt: HostRuntime) {
-    over(&rt, rt.alloc(), FieldName::BabyBear, Topic::CountedRows);
+    for field in [FieldName::BabyBear, FieldName::WideBabyBear] {
+        over(&rt, rt.alloc(), field, Topic::CountedRows);
+    }
 }
 
 // One through a matrix and two through views, with factors whose product is five.
