@@ -140,7 +140,7 @@ fn ends(
 // this text.
 fn line_ends(rt: &impl Abort, alloc: Global, words: &[&str], status: u8, text: &[u8]) {
     let line = line_of(rt, alloc, words);
-    let mut out = Stubborn::with_room(alloc, 2000);
+    let mut out = Stubborn::with_room(alloc, 20000);
     let found = status_of(alloc, line.as_slice(), &mut out);
     is_left(rt, words, &out, found, status, text);
 }
@@ -547,22 +547,22 @@ fn leading_zeros_are_read(rt: HostRuntime) {
     line_ends(&rt, rt.alloc(), &words, 0, b"7\n".as_slice());
 }
 
-// The numbers from 1 to 299 and a long seven, four rows of 75: an extension by no bits keeps its values. A fault of the
-// last word alone is told too.
+// The numbers from 1 to 1999 and a long seven, four rows of 500: an extension by no bits keeps its values. A fault of
+// the last word alone is told too.
 #[test]
 fn every_word_of_a_command_line_is_read_in_order(rt: HostRuntime) {
     let alloc = rt.alloc();
     let mut typed = String::new(alloc);
     let mut text = String::new(alloc);
-    for n in 1..300u64 {
-        let end = if n % 75 == 0 { '\n' } else { ' ' };
+    for n in 1..2000u64 {
+        let end = if n % 500 == 0 { '\n' } else { ' ' };
         write!(typed, " {n}").expect(&rt, "memory");
         write!(text, "{n}{end}").expect(&rt, "memory");
     }
     text.push_str("7\n").expect(&rt, "memory");
     let seven = seven(&rt, alloc, 300);
     let mut words = Vec::new(alloc);
-    for word in ["babybear", "dit", "lde", "0", "75"] {
+    for word in ["babybear", "dit", "lde", "0", "500"] {
         words.push(word).expect(&rt, "memory");
     }
     for word in typed.as_str().split_whitespace() {
