@@ -13,7 +13,7 @@ use engine_calls::engines::Engine;
 use engine_calls::names::{CALLS, Call, ENGINES, EngineName, Operation, Tables};
 use p3_dft::{
     BabyBear, CanonicalField, DftError, Field, Goldilocks, JobsStopped, KoalaBear,
-    Radix2DFTSmallBatch, RowMajorMatrix, TwoAdicField,
+    Radix2DFTSmallBatch, RowMajorMatrix, TwoAdicField, WideBabyBear, WideGoldilocks,
 };
 use std::alloc::Global;
 use std::process::Abort;
@@ -43,6 +43,25 @@ const SHAPES: [(usize, usize, usize); 3] = [(1, 1, 2), (3, 2, 0), (4, 1, 3)];
 const SHAPES_OF_SUMS: [(usize, usize, usize); 2] = [(12, 0, 3), (2, 8, 3)];
 
 const LARGE_SHAPES: [(usize, usize, usize); 3] = [(12, 1, 2), (17, 1, 3), (4, 8, 0)];
+
+// Some calls at the largest height for each: transforms, and those that make tables or have their own extensions.
+const CALLS_AT_LARGEST: [Call; 8] = [
+    Call::Batch(Operation::CosetDft),
+    Call::Batch(Operation::CosetIdft),
+    Call::Batch(Operation::CosetLde),
+    Call::WithBlocks,
+    Call::OfCoefficients,
+    Call::Prepare,
+    Call::New,
+    Call::RunJobs,
+];
+
+const LARGEST_SHAPE: [(usize, usize, usize); 1] = [(20, 0, 3)];
+
+const LARGEST_SHAPE_OF_SUMS: [(usize, usize, usize); 1] = [(14, 0, 3)];
+
+// A shape past a pack of sixteen lanes.
+const SHAPE_IN_PACKS: [(usize, usize, usize); 1] = [(6, 1, 3)];
 
 // Room for what is held while a call is made.
 const MOST_BLOCKS: usize = 20000;
@@ -124,9 +143,8 @@ fn take_for_good(alloc: Global, size: usize, most: usize) -> bool {
     false
 }
 
-// What a test needs beside. Small blocks that were freed stay apart, and need more.
-fn kept(rt: &impl Abort, alloc: Global, small: bool) -> Vec<Vec<u8>> {
-    let size = if small { 100000 } else { 4000 };
+// What a test needs beside: 64 blocks of this size.
+fn kept(rt: &impl Abort, alloc: Global, size: usize) -> Vec<Vec<u8>> {
     let mut kept = Vec::new(alloc);
     for _n in 0..64usize {
         let block = Vec::with_capacity(alloc, size).expect(rt, "memory");
@@ -135,12 +153,15 @@ fn kept(rt: &impl Abort, alloc: Global, small: bool) -> Vec<Vec<u8>> {
     kept
 }
 
-// Takes all memory for good, but for what a test needs, and answers what makes that scarce. None where small
-// blocks have memory of their own beside the address space that a process can get: so it is in a process
+// What a test needs where small blocks are among those that are taken: those that were freed stay apart, and need more.
+const ROOM_BY_SMALL_BLOCKS: usize = 100000;
+
+// Takes all memory for good, but for 64 blocks of a size that a test needs, and answers what makes that scarce. None
+// where small blocks have memory of their own beside the address space that a process can get: so it is in a process
 // that looks for misuse of memory, where nothing can be shown in this way.
-fn scarce_memory(rt: &impl Abort, alloc: Global, small: bool) -> Option<Scarce> {
+fn scarce_memory(rt: &impl Abort, alloc: Global, small: bool, size: usize) -> Option<Scarce> {
     let held = Vec::with_capacity(alloc, MOST_BLOCKS).expect(rt, "memory");
-    let kept = kept(rt, alloc, small);
+    let kept = kept(rt, alloc, size);
     for n in 0..27usize {
         assert!(rt; take_for_good(alloc, (1 << 46) >> n, 200000));
     }
@@ -194,8 +215,39 @@ fn sweep<F: TwoAdicField>(
     (Verdict::RefusedFirst, refused)
 }
 
-// How often a call is made again: what it was passed would fill the memory several times over.
-const TIMES: usize = 128;
+// Calls that are made again and again: on which engines, the logarithm of the height, and how often, so that what they
+// were passed would fill the memory twice over.
+#[derive(Clone, Copy)]
+struct Repeated {
+    engines: Engines,
+    log_h: usize,
+    times: usize,
+}
+
+// In memory of 256 kilobytes, elements of eight bytes.
+const REPEATED: [Repeated; 2] = [
+    Repeated {
+        engines: Engines::Fast,
+        log_h: 9,
+        times: 128,
+    },
+    Repeated {
+        engines: Engines::BySums,
+        log_h: 8,
+        times: 128,
+    },
+];
+
+const ROOM: usize = 4000;
+
+// In memory of 512 kilobytes, elements of four bytes or of eight.
+const REPEATED_AT_LARGER_HEIGHTS: [Repeated; 1] = [Repeated {
+    engines: Engines::Fast,
+    log_h: 11,
+    times: 64,
+}];
+
+const ROOM_AT_LARGER_HEIGHTS: usize = 8000;
 
 // Makes a call again and again, by a new engine and by one that goes on: with too little memory, of four amounts in
 // turn, and with enough. Were what it was passed kept, there would soon be no memory for the next. Counts how often
@@ -205,10 +257,11 @@ fn repeat<F: TwoAdicField>(
     scarce: &mut Scarce,
     name: EngineName,
     case: Case,
+    times: usize,
 ) -> (Verdict, usize) {
     let mut refused = 0usize;
     let mut engine: Engine<F> = Engine::new(name);
-    for n in 0..TIMES {
+    for n in 0..times {
         scarce.left = n % 4 * 4096;
         match verdict_on(alloc, scarce, &mut Engine::<F>::new(name), case) {
             Verdict::Answered => {}
@@ -253,14 +306,19 @@ fn is_promised(engine: EngineName, case: Case) -> bool {
     }
 }
 
-// All calls at each shape, on new engines and on such as have the tables.
-fn cases(rt: &impl Abort, alloc: Global, shapes: &[(usize, usize, usize)]) -> Vec<Case> {
+// Calls at each shape, on new engines and on such as have the tables.
+fn cases(
+    rt: &impl Abort,
+    alloc: Global,
+    calls: &[Call],
+    shapes: &[(usize, usize, usize)],
+) -> Vec<Case> {
     let mut cases = Vec::new(alloc);
-    for call in CALLS {
+    for call in calls {
         for (log_h, added_bits, shift) in shapes {
             for prepared in [None, Some(*log_h)] {
                 let case = Case {
-                    call,
+                    call: *call,
                     log_h: *log_h,
                     added_bits: *added_bits,
                     shift: *shift,
@@ -296,14 +354,15 @@ fn assert_answered(
     );
 }
 
-// All calls at some shapes with enough memory.
+// Calls at some shapes with enough memory.
 fn answer_all<F: TwoAdicField>(
     rt: &impl Abort,
     alloc: Global,
     engines: Engines,
+    calls: &[Call],
     shapes: &[(usize, usize, usize)],
 ) {
-    for case in cases(rt, alloc, shapes) {
+    for case in cases(rt, alloc, calls, shapes) {
         for name in ENGINES {
             if engines.has(name) {
                 let mut engine: Engine<F> = Engine::new(name);
@@ -366,40 +425,39 @@ fn grow<F: TwoAdicField>(rt: &impl Abort, alloc: Global) {
 
 // Every call on every engine with every amount of memory up to one that is enough.
 fn sweep_all<F: TwoAdicField>(rt: &impl Abort, alloc: Global) {
-    answer_all::<F>(rt, alloc, Engines::All, &SHAPES);
-    let cases = cases(rt, alloc, &SHAPES);
-    if let Some(mut scarce) = scarce_memory(rt, alloc, true) {
+    answer_all::<F>(rt, alloc, Engines::All, &CALLS, &SHAPES);
+    let cases = cases(rt, alloc, &CALLS, &SHAPES);
+    if let Some(mut scarce) = scarce_memory(rt, alloc, true, ROOM_BY_SMALL_BLOCKS) {
         let refused = are_refused::<F>(rt, alloc, cases.as_slice(), &mut scarce);
         assert!(rt; refused > 5000);
     }
 }
 
-// Every call on these engines again and again.
+// Every call on some engines again and again.
 fn repeat_all<F: TwoAdicField>(
     rt: &impl Abort,
     alloc: Global,
     scarce: &mut Scarce,
-    engines: Engines,
-    cases: &[Case],
+    repeated: Repeated,
 ) {
+    let cases = cases(rt, alloc, &CALLS, &[(repeated.log_h, 1, 3)]);
     for engine in ENGINES {
-        if engines.has(engine) {
-            for case in cases {
-                let (verdict, times) = repeat::<F>(alloc, scarce, engine, *case);
+        if repeated.engines.has(engine) {
+            for case in cases.as_slice() {
+                let (verdict, refused) = repeat::<F>(alloc, scarce, engine, *case, repeated.times);
                 let free = verdict == Verdict::Absent || !always_takes_memory(case.call);
-                assert_answered(rt, engine, *case, verdict, times > 0 || free);
+                assert_answered(rt, engine, *case, verdict, refused > 0 || free);
             }
         }
     }
 }
 
-// What is passed is given back, whether a call answers or is refused memory.
-fn give_back<F: TwoAdicField>(rt: &impl Abort, alloc: Global) {
-    let of_sums = cases(rt, alloc, &[(8, 1, 3)]);
-    let larger = cases(rt, alloc, &[(9, 1, 3)]);
-    if let Some(mut scarce) = scarce_memory(rt, alloc, false) {
-        repeat_all::<F>(rt, alloc, &mut scarce, Engines::Fast, larger.as_slice());
-        repeat_all::<F>(rt, alloc, &mut scarce, Engines::BySums, of_sums.as_slice());
+// What is passed is given back, whether a call answers or is refused memory, of which there are 64 blocks of a size.
+fn give_back<F: TwoAdicField>(rt: &impl Abort, alloc: Global, calls: &[Repeated], size: usize) {
+    if let Some(mut scarce) = scarce_memory(rt, alloc, false, size) {
+        for repeated in calls {
+            repeat_all::<F>(rt, alloc, &mut scarce, *repeated);
+        }
     }
 }
 
@@ -488,7 +546,7 @@ fn stop_within_list<F: TwoAdicField>(rt: &impl Abort, alloc: Global, scarce: &mu
 }
 
 fn keep_rows<F: TwoAdicField>(rt: &impl Abort, alloc: Global) {
-    if let Some(mut scarce) = scarce_memory(rt, alloc, true) {
+    if let Some(mut scarce) = scarce_memory(rt, alloc, true, ROOM_BY_SMALL_BLOCKS) {
         keep_tables::<F>(rt, alloc, &mut scarce);
         stop_within_list::<F>(rt, alloc, &mut scarce);
     }
@@ -526,8 +584,8 @@ enum Topic<'a> {
     AboveAllMemory,
     TooLittleMemory,
     AfterARefusal,
-    GivenBack,
-    Answers(Engines, &'a [(usize, usize, usize)]),
+    GivenBack(&'a [Repeated], usize),
+    Answers(Engines, &'a [Call], &'a [(usize, usize, usize)]),
 }
 
 impl<'a> Topic<'a> {
@@ -537,8 +595,10 @@ impl<'a> Topic<'a> {
             Topic::AboveAllMemory => grow::<F>(rt, alloc),
             Topic::TooLittleMemory => sweep_all::<F>(rt, alloc),
             Topic::AfterARefusal => keep_rows::<F>(rt, alloc),
-            Topic::GivenBack => give_back::<F>(rt, alloc),
-            Topic::Answers(engines, shapes) => answer_all::<F>(rt, alloc, engines, shapes),
+            Topic::GivenBack(calls, size) => give_back::<F>(rt, alloc, calls, size),
+            Topic::Answers(engines, calls, shapes) => {
+                answer_all::<F>(rt, alloc, engines, calls, shapes)
+            }
         }
     }
 }
@@ -554,6 +614,14 @@ fn over_koala_bear(rt: &impl Abort, alloc: Global, topic: Topic) {
 
 fn over_goldilocks(rt: &impl Abort, alloc: Global, topic: Topic) {
     topic.hold::<Goldilocks>(rt, alloc);
+}
+
+fn over_wide_baby_bear(rt: &impl Abort, alloc: Global, topic: Topic) {
+    topic.hold::<WideBabyBear>(rt, alloc);
+}
+
+fn over_wide_goldilocks(rt: &impl Abort, alloc: Global, topic: Topic) {
+    topic.hold::<WideGoldilocks>(rt, alloc);
 }
 
 #[test]
@@ -578,29 +646,62 @@ fn tables_and_answers_stay_after_a_refusal(rt: HostRuntime) {
 
 #[test]
 fn what_is_passed_is_given_back(rt: HostRuntime) {
-    over_goldilocks(&rt, rt.alloc(), Topic::GivenBack);
+    over_goldilocks(&rt, rt.alloc(), Topic::GivenBack(&REPEATED, ROOM));
+}
+
+// Over fields whose packs are vectors, which have a pass of their own through all code that goes by packs.
+#[test]
+fn what_is_passed_is_given_back_at_larger_heights_over_wide_baby_bear(rt: HostRuntime) {
+    let topic = Topic::GivenBack(&REPEATED_AT_LARGER_HEIGHTS, ROOM_AT_LARGER_HEIGHTS);
+    over_wide_baby_bear(&rt, rt.alloc(), topic);
+}
+
+#[test]
+fn what_is_passed_is_given_back_at_larger_heights_over_wide_goldilocks(rt: HostRuntime) {
+    let topic = Topic::GivenBack(&REPEATED_AT_LARGER_HEIGHTS, ROOM_AT_LARGER_HEIGHTS);
+    over_wide_goldilocks(&rt, rt.alloc(), topic);
+}
+
+#[test]
+fn calls_answer_past_a_pack_over_wide_fields(rt: HostRuntime) {
+    let topic = Topic::Answers(Engines::All, &CALLS, &SHAPE_IN_PACKS);
+    over_wide_baby_bear(&rt, rt.alloc(), topic);
+    over_wide_goldilocks(&rt, rt.alloc(), topic);
+}
+
+// Tables of 2^20 rows, and sums of 2^14 terms.
+#[test]
+fn calls_answer_at_the_largest_shapes(rt: HostRuntime) {
+    let sums = Topic::Answers(
+        Engines::BySums,
+        &[Call::Batch(Operation::CosetDft)],
+        &LARGEST_SHAPE_OF_SUMS,
+    );
+    over_baby_bear(&rt, rt.alloc(), sums);
+    let fast = Topic::Answers(Engines::Fast, &CALLS_AT_LARGEST, &LARGEST_SHAPE);
+    over_baby_bear(&rt, rt.alloc(), fast);
 }
 
 #[test]
 fn calls_answer_at_large_shapes_over_baby_bear(rt: HostRuntime) {
-    let sums = Topic::Answers(Engines::BySums, &SHAPES_OF_SUMS);
+    let sums = Topic::Answers(Engines::BySums, &CALLS, &SHAPES_OF_SUMS);
     over_baby_bear(&rt, rt.alloc(), sums);
-    let large = Topic::Answers(Engines::Fast, &LARGE_SHAPES);
+    let large = Topic::Answers(Engines::Fast, &CALLS, &LARGE_SHAPES);
     over_baby_bear(&rt, rt.alloc(), large);
 }
 
 #[test]
 fn calls_answer_at_large_shapes_over_koala_bear(rt: HostRuntime) {
-    let small = Topic::Answers(Engines::All, &SHAPES);
+    let small = Topic::Answers(Engines::All, &CALLS, &SHAPES);
     over_koala_bear(&rt, rt.alloc(), small);
-    let large = Topic::Answers(Engines::Fast, &LARGE_SHAPES);
+    let large = Topic::Answers(Engines::Fast, &CALLS, &LARGE_SHAPES);
     over_koala_bear(&rt, rt.alloc(), large);
 }
 
 #[test]
 fn calls_answer_at_large_shapes_over_goldilocks(rt: HostRuntime) {
-    let small = Topic::Answers(Engines::All, &SHAPES);
+    let small = Topic::Answers(Engines::All, &CALLS, &SHAPES);
     over_goldilocks(&rt, rt.alloc(), small);
-    let large = Topic::Answers(Engines::Fast, &LARGE_SHAPES);
+    let large = Topic::Answers(Engines::Fast, &CALLS, &LARGE_SHAPES);
     over_goldilocks(&rt, rt.alloc(), large);
 }
