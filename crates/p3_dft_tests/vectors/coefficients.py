@@ -1,5 +1,6 @@
 #!/usr/bin/env python3
-"""The extensions of coefficients among the answers of `src/tests/answers.rt`.
+"""The extensions of coefficients among the answers of `src/tests/answers.rt`, and the columns of four and of five
+coordinates in `src/tests/algebra.rt`.
 
     python3 vectors/coefficients.py      prints the numbers of each call; `rt fmt` lays them out
 
@@ -18,6 +19,11 @@ CALLS = [
     (3, [42, 7, 1], 1, 31),
     (1, [1, 2, 3, 4], 0, 3),
     (1, [5, 4], 2, 0),
+]
+# two elements, by the coordinates of their coefficients
+COORDINATES = [
+    (4, [1, 2, 3, 4, 5, 6, 7, 8]),
+    (5, [1, 2, 3, 4, 5, 6, 7, 8, 9, 10]),
 ]
 
 
@@ -39,6 +45,10 @@ def main():
         for width, rows, added_bits, shift in CALLS:
             answer = extended(field, width, rows, added_bits, shift)
             print(f"{field}: {rows} in rows of {width}, by {added_bits} bits, shift {shift}: {answer}")
+    for dimension, rows in COORDINATES:
+        for added_bits, shift in [(0, 1), (0, 31), (1, 31)]:
+            answer = extended("BabyBear", dimension, rows, added_bits, shift)
+            print(f"dimension {dimension}: values of {rows} by {added_bits} bits, shift {shift}: {answer}")
 
 
 main()

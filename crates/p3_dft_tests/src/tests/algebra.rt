@@ -1,5 +1,5 @@
-// Matrices over vector spaces: callers of four laws, worked rows of pairs, and that a form answers for
-// each coordinate what the call over the field answers.
+// Matrices over vector spaces: callers of four laws, worked columns, and that a form answers for each coordinate what
+// the call over the field answers.
 
 ghost use Rattle.std.specs.Prelude.{ℕ, ◌*◌, ◌<◌, ◌≤◌, IfOk, IsTrue};
 ghost use Rattle.p3_field.specs.Ring.{IsInvertible};
@@ -77,8 +77,8 @@ fn coordinates_extended<F: TwoAdicField, V: BasedVectorSpace<F>, D: TwoAdicSubgr
     engine.coset_lde_algebra_batch(mat, added_bits, shift)
 }
 
-// A column of pairs that was worked: what is done, the coordinates, the added bits, the shift, and the answer's.
-struct Pairs {
+// A column that was worked: what is done, its elements' coordinates, the added bits, the shift, and the answer's.
+struct Column {
     operation: Operation,
     rows: &'static [u64],
     added_bits: usize,
@@ -86,29 +86,29 @@ struct Pairs {
     answer: &'static [u64],
 }
 
-const PAIRS_OVER_BABY_BEAR: [Pairs; 4] = [
-    Pairs {
+const PAIRS_OVER_BABY_BEAR: [Column; 4] = [
+    Column {
         operation: Operation::Dft,
         rows: &[5, 1, 4, 0],
         added_bits: 0,
         shift: 1,
         answer: &[9, 1, 1, 1],
     },
-    Pairs {
+    Column {
         operation: Operation::Idft,
         rows: &[9, 1, 1, 1],
         added_bits: 0,
         shift: 1,
         answer: &[5, 1, 4, 0],
     },
-    Pairs {
+    Column {
         operation: Operation::Lde,
         rows: &[9, 42, 1, 42],
         added_bits: 1,
         shift: 1,
         answer: &[9, 42, 873820294, 42, 1, 42, 1139445637, 42],
     },
-    Pairs {
+    Column {
         operation: Operation::CosetLde,
         rows: &[9, 42, 1, 42],
         added_bits: 1,
@@ -117,13 +117,95 @@ const PAIRS_OVER_BABY_BEAR: [Pairs; 4] = [
     },
 ];
 
-const PAIRS_OVER_GOLDILOCKS: [Pairs; 1] = [Pairs {
+const PAIRS_OVER_GOLDILOCKS: [Column; 1] = [Column {
     operation: Operation::Lde,
     rows: &[9, 42, 1, 42],
     added_bits: 1,
     shift: 1,
     answer: &[9, 42, 1125899906842629, 42, 1, 42, 18445618169507741702, 42],
 }];
+
+// Columns of two elements, whose polynomials have coefficients 1, 2, 3, 4, .. and then those after them.
+const FOURS_OVER_BABY_BEAR: [Column; 4] = [
+    Column {
+        operation: Operation::CosetDft,
+        rows: &[1, 2, 3, 4, 5, 6, 7, 8],
+        added_bits: 0,
+        shift: 31,
+        answer: &[
+            156, 188, 220, 252, 2013265767, 2013265737, 2013265707, 2013265677,
+        ],
+    },
+    Column {
+        operation: Operation::CosetIdft,
+        rows: &[
+            156, 188, 220, 252, 2013265767, 2013265737, 2013265707, 2013265677,
+        ],
+        added_bits: 0,
+        shift: 31,
+        answer: &[1, 2, 3, 4, 5, 6, 7, 8],
+    },
+    Column {
+        operation: Operation::Idft,
+        rows: &[6, 8, 10, 12, 2013265917, 2013265917, 2013265917, 2013265917],
+        added_bits: 0,
+        shift: 1,
+        answer: &[1, 2, 3, 4, 5, 6, 7, 8],
+    },
+    Column {
+        operation: Operation::CosetLde,
+        rows: &[6, 8, 10, 12, 2013265917, 2013265917, 2013265917, 2013265917],
+        added_bits: 1,
+        shift: 31,
+        answer: &[
+            156, 188, 220, 252, 138332023, 1373957981, 596318018, 1831943976, 2013265767,
+            2013265737, 2013265707, 2013265677, 1874933900, 639307944, 1416947909, 181321953,
+        ],
+    },
+];
+
+const FIVES_OVER_BABY_BEAR: [Column; 4] = [
+    Column {
+        operation: Operation::CosetDft,
+        rows: &[1, 2, 3, 4, 5, 6, 7, 8, 9, 10],
+        added_bits: 0,
+        shift: 31,
+        answer: &[
+            187, 219, 251, 283, 315, 2013265736, 2013265706, 2013265676, 2013265646, 2013265616,
+        ],
+    },
+    Column {
+        operation: Operation::CosetIdft,
+        rows: &[
+            187, 219, 251, 283, 315, 2013265736, 2013265706, 2013265676, 2013265646, 2013265616,
+        ],
+        added_bits: 0,
+        shift: 31,
+        answer: &[1, 2, 3, 4, 5, 6, 7, 8, 9, 10],
+    },
+    Column {
+        operation: Operation::Idft,
+        rows: &[
+            7, 9, 11, 13, 15, 2013265916, 2013265916, 2013265916, 2013265916, 2013265916,
+        ],
+        added_bits: 0,
+        shift: 1,
+        answer: &[1, 2, 3, 4, 5, 6, 7, 8, 9, 10],
+    },
+    Column {
+        operation: Operation::CosetLde,
+        rows: &[
+            7, 9, 11, 13, 15, 2013265916, 2013265916, 2013265916, 2013265916, 2013265916,
+        ],
+        added_bits: 1,
+        shift: 31,
+        answer: &[
+            187, 219, 251, 283, 315, 1373957980, 596318017, 1831943975, 1054304012, 276664049,
+            2013265736, 2013265706, 2013265676, 2013265646, 2013265616, 639307943, 1416947908,
+            181321952, 958961917, 1736601882,
+        ],
+    },
+];
 
 // The matrix of the elements whose coordinates are the rows of another, one after another.
 pub(crate) fn elements_of<F: TwoAdicField, V: BasedVectorSpace<F>>(
@@ -200,20 +282,20 @@ fn assert_rows_in_space<F: TwoAdicField, V: BasedVectorSpace<F> + Copy>(
     );
 }
 
-// The worked columns of pairs, by every engine.
-fn worked_pairs<F: CanonicalField, V: BasedVectorSpace<F> + Copy>(
+// Worked columns, by every engine.
+fn worked_columns<F: CanonicalField, V: BasedVectorSpace<F> + Copy>(
     rt: &impl Abort,
     alloc: Global,
-    cases: &[Pairs],
+    cases: &[Column],
 ) {
     for name in EVERY_ENGINE {
         let mut engine: TestEngine<F> = TestEngine::new(name);
         for case in cases {
             let call = Call::AlgebraVector(case.operation);
-            let pairs = matrix(rt, alloc, case.rows, 2);
+            let column = matrix(rt, alloc, case.rows, V::DIMENSION);
             let on = (case.added_bits, F::from_usize(case.shift));
-            let answer = matrix(rt, alloc, case.answer, 2);
-            assert_rows_in_space::<F, V>(rt, &mut engine, call, (&pairs, 1), on, &answer);
+            let answer = matrix(rt, alloc, case.answer, V::DIMENSION);
+            assert_rows_in_space::<F, V>(rt, &mut engine, call, (&column, 1), on, &answer);
         }
     }
 }
@@ -221,7 +303,7 @@ fn worked_pairs<F: CanonicalField, V: BasedVectorSpace<F> + Copy>(
 // What is tested over a vector space.
 #[derive(Clone, Copy)]
 enum SpaceTopic<'a> {
-    WorkedPairs(&'a [Pairs]),
+    WorkedColumns(&'a [Column]),
     Alone,
     Prepared,
 }
@@ -232,7 +314,7 @@ fn in_space<F: CanonicalField, V: BasedVectorSpace<F> + Copy>(
     topic: SpaceTopic,
 ) {
     match topic {
-        SpaceTopic::WorkedPairs(cases) => worked_pairs::<F, V>(rt, alloc, cases),
+        SpaceTopic::WorkedColumns(cases) => worked_columns::<F, V>(rt, alloc, cases),
         SpaceTopic::Alone => space_over::<F, V>(rt, alloc),
         SpaceTopic::Prepared => stay_prepared::<F, V>(rt, alloc),
     }
@@ -249,10 +331,14 @@ fn in_pairs_over_goldilocks(rt: &impl Abort, alloc: Global, topic: SpaceTopic) {
 }
 
 #[test]
-fn columns_of_pairs_have_the_worked_answers(rt: HostRuntime) {
-    let topic = SpaceTopic::WorkedPairs(&PAIRS_OVER_BABY_BEAR);
+fn columns_have_the_worked_answers(rt: HostRuntime) {
+    let topic = SpaceTopic::WorkedColumns(&PAIRS_OVER_BABY_BEAR);
     in_space_over_baby_bear::<2>(&rt, rt.alloc(), topic);
-    let topic = SpaceTopic::WorkedPairs(&PAIRS_OVER_GOLDILOCKS);
+    let topic = SpaceTopic::WorkedColumns(&FOURS_OVER_BABY_BEAR);
+    in_space_over_baby_bear::<4>(&rt, rt.alloc(), topic);
+    let topic = SpaceTopic::WorkedColumns(&FIVES_OVER_BABY_BEAR);
+    in_space_over_baby_bear::<5>(&rt, rt.alloc(), topic);
+    let topic = SpaceTopic::WorkedColumns(&PAIRS_OVER_GOLDILOCKS);
     in_pairs_over_goldilocks(&rt, rt.alloc(), topic);
 }
 
@@ -349,6 +435,8 @@ fn each_coordinate_is_transformed_alone(rt: HostRuntime) {
     in_space_over_baby_bear::<1>(&rt, rt.alloc(), SpaceTopic::Alone);
     in_space_over_baby_bear::<2>(&rt, rt.alloc(), SpaceTopic::Alone);
     in_space_over_baby_bear::<3>(&rt, rt.alloc(), SpaceTopic::Alone);
+    in_space_over_baby_bear::<4>(&rt, rt.alloc(), SpaceTopic::Alone);
+    in_space_over_baby_bear::<5>(&rt, rt.alloc(), SpaceTopic::Alone);
     in_space_over_baby_bear::<8>(&rt, rt.alloc(), SpaceTopic::Alone);
     in_pairs_over_goldilocks(&rt, rt.alloc(), SpaceTopic::Alone);
 }

@@ -295,12 +295,21 @@ fn blocks_limited<F: CanonicalField>(rt: &impl Abort, alloc: Global) {
     }
 }
 
-// The consumer is made once the coefficients were transformed, of one or two rows.
+// The consumer is made once the coefficients were transformed, of one to eight rows.
 fn consumers_made_late<F: CanonicalField>(rt: &impl Abort, alloc: Global) {
     for name in EVERY_ENGINE {
         let mut engine: TestEngine<F> = TestEngine::new(name);
-        for (width, added_bits) in [(1usize, 0usize), (1, 1), (2, 0), (2, 1)] {
-            let mat = matrix(rt, alloc, &[9, 1], width);
+        for (width, added_bits) in [
+            (8usize, 0usize),
+            (8, 1),
+            (4, 0),
+            (4, 1),
+            (2, 0),
+            (2, 1),
+            (1, 0),
+            (1, 1),
+        ] {
+            let mat = matrix(rt, alloc, &[9, 1, 0, 0, 5, 4, 0, 7], width);
             let late = engine.makes_consumer_late(input(rt, &mat, added_bits, F::ONE));
             assert!(rt;
                 late,

@@ -5,7 +5,7 @@ use super::helpers::engines::{EVERY_ENGINE, Name, TestEngine, assert_rows_of, in
 use super::helpers::matrices::{assert_same, column_of, combined, sample, with_zeros};
 use super::{FieldName, Topic, over};
 use engine_calls::names::{Call, ENGINES, EngineName, OPERATIONS, Operation};
-use p3_dft::{RowMajorMatrix, TwoAdicField};
+use p3_dft::{RowMajorMatrix, TwoAdicField, WideBabyBear, WideGoldilocks, WideKoalaBear};
 use std::alloc::Global;
 use std::process::Abort;
 
@@ -182,6 +182,76 @@ fn every_engine_agrees_with_naive_over_baby_bear(rt: HostRuntime) {
 #[test]
 fn every_engine_agrees_with_naive_over_goldilocks(rt: HostRuntime) {
     over(&rt, rt.alloc(), FieldName::Goldilocks, Topic::Agreement);
+}
+
+// Shapes of columns and of rows that have less than a pack of eight or of sixteen lanes, full packs, and a rest.
+const SHAPES_IN_PACKS: [(usize, usize); 12] = [
+    (1, 17),
+    (2, 16),
+    (8, 8),
+    (8, 15),
+    (16, 33),
+    (8, 100),
+    (16, 1),
+    (32, 1),
+    (64, 1),
+    (128, 1),
+    (64, 3),
+    (64, 24),
+];
+
+fn agree_in_packs<F: TwoAdicField>(rt: &impl Abort, alloc: Global) {
+    for (height, width) in SHAPES_IN_PACKS {
+        agree_at::<F>(rt, alloc, height, width);
+    }
+}
+
+// Over fields whose packs are vectors of eight and of sixteen lanes.
+#[test]
+fn every_engine_agrees_with_naive_in_wide_packs(rt: HostRuntime) {
+    agree_in_packs::<WideGoldilocks>(&rt, rt.alloc());
+    agree_in_packs::<WideBabyBear>(&rt, rt.alloc());
+    agree_in_packs::<WideKoalaBear>(&rt, rt.alloc());
+}
+
+// The calls that answer rows.
+const CALLS_OF_ROWS: [Call; 13] = [
+    Call::Batch(Operation::Dft),
+    Call::Batch(Operation::CosetDft),
+    Call::Batch(Operation::Idft),
+    Call::Batch(Operation::CosetIdft),
+    Call::Batch(Operation::Lde),
+    Call::Batch(Operation::CosetLde),
+    Call::WithTransform,
+    Call::ByParts,
+    Call::BitReversed,
+    Call::WithBlocks,
+    Call::InBlocks,
+    Call::OfCoefficients,
+    Call::OfCoefficientsBitReversed,
+];
+
+// How often an engine makes a call: it may not know how many there were before.
+const TIMES: usize = 2000;
+
+// An engine answers a call again and again what the definition answers.
+pub(crate) fn again_and_again<F: TwoAdicField>(rt: &impl Abort, alloc: Global) {
+    let x = sample(rt, alloc, 4, 3, 1);
+    for name in EVERY_ENGINE {
+        let mut engine: TestEngine<F> = TestEngine::new(name);
+        for call in CALLS_OF_ROWS {
+            let rows = rows_of(rt, &mut naive(), call, input(rt, &x, 1, F::GENERATOR));
+            for _n in 0..TIMES {
+                let again = input(rt, &x, 1, F::GENERATOR);
+                assert_rows_of(rt, &mut engine, call, again, &rows);
+            }
+        }
+    }
+}
+
+#[test]
+fn engines_answer_thousands_of_calls(rt: HostRuntime) {
+    over(&rt, rt.alloc(), FieldName::BabyBear, Topic::ManyCalls);
 }
 
 // By tiles of one size, on one engine.

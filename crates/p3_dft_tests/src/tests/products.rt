@@ -1,6 +1,8 @@
-// How many products of a matrix's entries each call makes, counted by the entries themselves: on every engine
-// within the bounds that are proved of the engine's own counter. A product with a row of zeros that an
-// extension adds is not among them, since those zeros are no entries of the matrix.
+// How many products and sums of a matrix's entries each call makes, counted by the entries themselves. On every engine
+// the products are within the bounds that are proved of the engine's own counter. No clause is of sums, and a body that
+// transforms by sums alone makes no product: so they have bounds of their own, one sum and one difference for each pair
+// of rows that a layer joins. What is made of a row of zeros alone that an extension adds is not counted, since those
+// zeros are no entries of the matrix.
 
 ghost use Rattle.std.specs.List.{All};
 ghost use Rattle.p3_matrix.specs.RowMajor.{height};
@@ -33,29 +35,51 @@ struct Shape {
     added_bits: usize,
 }
 
-// The least products of a transform, and the most of each call.
+// How many products, and how many sums and differences.
+#[derive(Clone, Copy)]
+struct Work {
+    products: usize,
+    sums: usize,
+}
+
+impl Work {
+    fn of(products: usize, sums: usize) -> Work {
+        Work { products, sums }
+    }
+
+    // That of so many butterflies: each has one product, one sum and one difference.
+    fn of_butterflies(count: usize) -> Work {
+        Work::of(count, count.saturating_mul(2))
+    }
+}
+
+// The least products of a transform, and the most work of each call.
 #[derive(Clone, Copy)]
 struct Bounds {
     least: usize,
-    transform: usize,
-    coset_transform: usize,
-    inverse: usize,
-    coset_inverse: usize,
-    extension: usize,
+    transform: Work,
+    coset_transform: Work,
+    inverse: Work,
+    coset_inverse: Work,
+    extension: Work,
     // Of `lde_batch` and `coset_lde_batch`.
-    coset_extension: usize,
-    extension_of_coefficients: usize,
+    coset_extension: Work,
+    extension_of_coefficients: Work,
     // Of an extension whose first block is refused.
-    refused: usize,
+    refused: Work,
     // Of telling whether an extension is a codeword.
-    membership: usize,
+    membership: Work,
 }
 
-// How many there are in all.
-fn total(counts: &[usize]) -> usize {
-    counts
-        .iter()
-        .fold(0, |sum: usize, count| sum.saturating_add(*count))
+// How much there is in all.
+fn total(parts: &[Work]) -> Work {
+    parts.iter().fold(
+        Work::of(0, 0),
+        |sum: Work, part| Work {
+            products: sum.products.saturating_add(part.products),
+            sums: sum.sums.saturating_add(part.sums),
+        },
+    )
 }
 
 // `2^log`.
@@ -63,25 +87,28 @@ fn rows(log: usize) -> usize {
     1 << log.min(63)
 }
 
-// The most products of a transform of `2^log` rows.
-fn most_of_transform(method: Method, log: usize, width: usize) -> usize {
-    let column = match method {
-        Method::Sums => rows(log).saturating_mul(rows(log)),
-        _ => rows(log).saturating_mul(log) / 2,
-    };
-    column.saturating_mul(width)
+// The most work of a transform of `2^log` rows: of sums with a term for each two rows, or of butterflies.
+fn most_of_transform(method: Method, log: usize, width: usize) -> Work {
+    let cells = rows(log).saturating_mul(width);
+    match method {
+        Method::Sums => {
+            let terms = cells.saturating_mul(rows(log));
+            Work::of(terms, terms)
+        }
+        _ => Work::of_butterflies(cells.saturating_mul(log) / 2),
+    }
 }
 
-// The most products before the first block of a coset is lent: the first half of its transform, of `log_h / 2` layers
+// The most work before the first block of a coset is lent: the first half of its transform, of `log_h / 2` layers
 // rounded up, and the others of one chunk alone, which has as many layers as its height has bits.
-fn most_before_refusal(log_h: usize, width: usize) -> usize {
+fn most_before_refusal(log_h: usize, width: usize) -> Work {
     let layers = log_h / 2;
     let first_half = rows(log_h).saturating_mul(log_h.saturating_sub(layers)) / 2;
     let chunk = rows(layers).saturating_mul(layers) / 2;
-    width.saturating_mul(total(&[first_half, chunk]))
+    Work::of_butterflies(first_half.saturating_add(chunk).saturating_mul(width))
 }
 
-// The most products of each call, by formulas.
+// The most work of each call, by formulas.
 fn bounds_at(method: Method, shape: Shape) -> Bounds {
     let Shape {
         log_h,
@@ -89,18 +116,24 @@ fn bounds_at(method: Method, shape: Shape) -> Bounds {
         added_bits,
     } = shape;
     let log = log_h.saturating_add(added_bits);
-    let entries = rows(log_h).saturating_mul(width);
-    let extended = rows(log).saturating_mul(width);
+    // Each entry is multiplied once.
+    let entries = Work::of(rows(log_h).saturating_mul(width), 0);
+    let extended = Work::of(rows(log).saturating_mul(width), 0);
     let transform = most_of_transform(method, log_h, width);
     let larger = most_of_transform(method, log, width);
-    let on_cosets = transform.saturating_mul(rows(added_bits));
+    let cosets = rows(added_bits);
+    let on_cosets = most_of_transform(method, log_h, width.saturating_mul(cosets));
     let extension = match method {
         Method::Cosets => total(&[transform, entries, on_cosets]),
         Method::ShortShifts => total(&[transform, entries, entries, larger]),
         _ => total(&[transform, entries, larger, extended]),
     };
     Bounds {
-        least: if method == Method::Sums { transform } else { 0 },
+        least: if method == Method::Sums {
+            transform.products
+        } else {
+            0
+        },
         transform,
         coset_transform: if method == Method::Cosets {
             transform
@@ -129,50 +162,52 @@ fn bounds_at(method: Method, shape: Shape) -> Bounds {
     }
 }
 
-// Those of eight rows of one entry, extended by one bit, worked by hand: the butterflies of eight rows are twelve, those
-// of sixteen are 32, and before the first block is lent eight are done of two layers, and one of two rows.
+// Those of eight rows of one entry, extended by one bit, worked by hand: the butterflies of eight rows are twelve,
+// those of sixteen are 32, and before the first block is lent eight are done of two layers, and one of two rows. Sums
+// and differences are two a butterfly: 24, 64 and 18.
 fn worked_bounds(method: Method) -> Bounds {
     let parts = Bounds {
         least: 1,
-        transform: 12,
-        coset_transform: 20,
-        inverse: 20,
-        coset_inverse: 28,
-        extension: 68,
-        coset_extension: 68,
-        extension_of_coefficients: 40,
-        refused: 68,
-        membership: 64,
+        transform: Work::of(12, 24),
+        coset_transform: Work::of(20, 24),
+        inverse: Work::of(20, 24),
+        coset_inverse: Work::of(28, 24),
+        extension: Work::of(68, 88),
+        coset_extension: Work::of(68, 88),
+        extension_of_coefficients: Work::of(40, 64),
+        refused: Work::of(68, 88),
+        membership: Work::of(64, 64),
     };
     match method {
         Method::Sums => Bounds {
             least: 64,
-            transform: 64,
-            coset_transform: 72,
-            inverse: 72,
-            coset_inverse: 80,
-            extension: 344,
-            coset_extension: 344,
-            extension_of_coefficients: 264,
-            refused: 344,
-            membership: 288,
+            transform: Work::of(64, 64),
+            coset_transform: Work::of(72, 64),
+            inverse: Work::of(72, 64),
+            coset_inverse: Work::of(80, 64),
+            extension: Work::of(344, 320),
+            coset_extension: Work::of(344, 320),
+            extension_of_coefficients: Work::of(264, 256),
+            refused: Work::of(344, 320),
+            membership: Work::of(288, 256),
         },
         Method::Parts => parts,
         Method::ShortShifts => Bounds {
-            extension: 60,
-            coset_extension: 60,
-            refused: 60,
+            extension: Work::of(60, 88),
+            coset_extension: Work::of(60, 88),
+            refused: Work::of(60, 88),
             ..parts
         },
         Method::Cosets => Bounds {
-            coset_transform: 12,
-            extension: 44,
-            coset_extension: 44,
-            refused: 29,
+            coset_transform: Work::of(12, 24),
+            extension: Work::of(44, 72),
+            coset_extension: Work::of(44, 72),
+            refused: Work::of(29, 42),
             ..parts
         },
         Method::WithoutZeros => Bounds {
-            coset_extension: 52,
+            coset_extension: Work::of(52, 72),
+            extension_of_coefficients: Work::of(40, 48),
             ..parts
         },
     }
@@ -194,30 +229,50 @@ impl BoundsFrom {
     }
 }
 
-// How many products a matrix's calls may make, and the cell that counts them.
+// The cells that count products and sums.
 #[derive(Drop)]
 struct Count<'a> {
-    cell: &'a Cell<usize>,
+    products: &'a Cell<usize>,
+    sums: &'a Cell<usize>,
 }
 
 impl<'a> Count<'a> {
-    // Stops the test where a call made fewer or more products, and counts anew.
+    // What was counted.
+    fn so_far(&self) -> Work {
+        Work::of(self.products.get(), self.sums.get())
+    }
+
+    fn begin(&self) {
+        self.products.set(0);
+        self.sums.set(0);
+    }
+
+    // Stops the test where a call made fewer or more products, or more sums, and counts anew.
     fn assert_within(
         &self,
         rt: &impl Abort,
         (form, word, engine): (&str, &str, &str),
         shape: Shape,
-        (least, most): (usize, usize),
+        (least, most): (usize, Work),
     ) {
-        let count = self.cell.get();
+        let Work { products, sums } = self.so_far();
         assert!(rt;
-            least <= count && count <= most,
-            "{form} {word} on {engine}: {count} products, not {least} to {most}, log_h {}, width {}, added bits {}",
+            least <= products && products <= most.products,
+            "{form} {word} on {engine}: {products} products, not {least} to {}, log_h {}, width {}, added bits {}",
+            most.products,
             shape.log_h,
             shape.width,
             shape.added_bits
         );
-        self.cell.set(0);
+        assert!(rt;
+            sums <= most.sums,
+            "{form} {word} on {engine}: {sums} sums, not {} at most, log_h {}, width {}, added bits {}",
+            most.sums,
+            shape.log_h,
+            shape.width,
+            shape.added_bits
+        );
+        self.begin();
     }
 }
 
@@ -231,8 +286,8 @@ fn assert_ended(rt: &impl Abort, (word, engine): (&str, &str), shape: Shape, as_
 }
 
 impl Bounds {
-    // The least and the most products of a call, if it makes any.
-    fn of(self, call: Call) -> Option<(usize, usize)> {
+    // The least products and the most work of a call, if it makes any.
+    fn of(self, call: Call) -> Option<(usize, Work)> {
         match call {
             Call::Batch(operation) => Some(self.of_operation(operation, self.coset_extension)),
             Call::Vector(operation)
@@ -251,7 +306,7 @@ impl Bounds {
         }
     }
 
-    fn of_operation(self, operation: Operation, extension: usize) -> (usize, usize) {
+    fn of_operation(self, operation: Operation, extension: Work) -> (usize, Work) {
         match operation {
             Operation::Dft => (self.least, self.transform),
             Operation::CosetDft => (0, self.coset_transform),
@@ -294,7 +349,7 @@ fn codeword_within<F: CanonicalField>(
 ) {
     let message = input(rt, mat, shape.added_bits, F::GENERATOR);
     let word = rows_of(rt, engine, Call::Encode, message);
-    count.cell.set(0);
+    count.begin();
     let answer = engine.answer(
         Call::IsCodeword,
         input(rt, &word, shape.added_bits, F::GENERATOR),
@@ -306,7 +361,7 @@ fn codeword_within<F: CanonicalField>(
 }
 
 // An extension whose blocks are all taken, and one whose first block is refused: of its coset nothing more is done, and
-// no other coset is begun. A later block of more than one row takes products.
+// no other coset is begun. A later block of more than one row takes products and sums.
 fn refusal_within<F: CanonicalField>(
     rt: &impl Abort,
     count: &Count<'_>,
@@ -323,7 +378,7 @@ fn refusal_within<F: CanonicalField>(
         _ => 0,
     };
     assert_ended(rt, ("with_blocks", engine.name), shape, blocks > 0);
-    let whole = count.cell.get();
+    let whole = count.so_far();
     count.assert_within(
         rt,
         ("alone", "with_blocks", engine.name),
@@ -335,7 +390,13 @@ fn refusal_within<F: CanonicalField>(
     let refused = matches!(&publication, Publication::Refused { .. });
     assert_ended(rt, ("with_blocks, refused", engine.name), shape, refused);
     let most = if blocks > 1 && shape.log_h > 1 {
-        bounds.refused.min(whole.saturating_sub(1))
+        Work {
+            products: bounds
+                .refused
+                .products
+                .min(whole.products.saturating_sub(1)),
+            sums: bounds.refused.sums.min(whole.sums.saturating_sub(1)),
+        }
     } else {
         bounds.refused
     };
@@ -561,39 +622,43 @@ where
     }
 }
 
-// Stops the test unless so many products were counted, and counts anew.
-fn assert_seen(rt: &impl Abort, count: &Count<'_>, wanted: usize) {
-    assert!(rt; count.cell.get() == wanted);
-    count.cell.set(0);
+// Stops the test unless so much work was counted, and counts anew.
+fn assert_seen(rt: &impl Abort, count: &Count<'_>, wanted: Work) {
+    let Work { products, sums } = count.so_far();
+    assert!(rt; products == wanted.products && sums == wanted.sums);
+    count.begin();
 }
 
-// One product is counted for each that a marked element, or what came of one, has a part in: in packs one for
-// each lane.
-fn sees_products<F: Metered>(rt: &impl Abort, (count, mark): (&Count<'_>, F::Mark)) {
+// One product, or one sum, is counted for each that a marked element, or what came of one, has a part in: in packs one
+// for each lane.
+fn sees_work<F: Metered>(rt: &impl Abort, (count, mark): (&Count<'_>, F::Mark)) {
     let one = F::ONE;
+    let lanes = F::Packing::WIDTH;
     let x = -(one - F::marked(2, mark)).halve() + one;
+    assert_seen(rt, count, Work::of(0, 2));
     let mut products = Products::new();
-    let _ = one * one;
-    assert_seen(rt, count, 0);
+    let _ = one * one + one;
+    assert_seen(rt, count, Work::of(0, 0));
     let _ = one * x;
-    assert_seen(rt, count, 1);
+    assert_seen(rt, count, Work::of(1, 0));
     let _ = scaled(x, one, &mut products);
-    assert_seen(rt, count, 1);
+    assert_seen(rt, count, Work::of(1, 0));
     let pack = F::Packing::broadcast(x).scaled(one, &mut products);
-    assert_seen(rt, count, F::Packing::WIDTH);
+    assert_seen(rt, count, Work::of(lanes, 0));
     let _ = F::Packing::broadcast(one).multiplied(pack, &mut products);
-    assert_seen(rt, count, F::Packing::WIDTH);
+    assert_seen(rt, count, Work::of(lanes, 0));
+    let _ = F::Packing::broadcast(one).add(pack).sub(pack);
+    assert_seen(rt, count, Work::of(0, lanes.saturating_mul(2)));
 }
 
 // The rows that were worked, and every shape.
-fn counts<F, V, W>(rt: &impl Abort, alloc: Global, cell: &Cell<usize>, mark: F::Mark)
+fn counts<F, V, W>(rt: &impl Abort, alloc: Global, count: &Count<'_>, mark: F::Mark)
 where
     F: Metered,
     V: BasedVectorSpace<F> + Copy,
     W: BasedVectorSpace<F> + Copy,
 {
-    let count = &Count { cell };
-    sees_products::<F>(rt, (count, mark));
+    sees_work::<F>(rt, (count, mark));
     let shape = Shape {
         log_h: 3,
         width: 1,
@@ -608,8 +673,12 @@ type Counting<'a, F, const LANES: usize> = Tally<F, InPacks<'a, LANES>>;
 
 #[test]
 fn products_stay_within_bounds_by_one_lane(rt: HostRuntime) {
-    let count = Cell::new(0);
-    let mark = InPacks::of(&count);
+    let (products, sums) = (Cell::new(0), Cell::new(0));
+    let count = Count {
+        products: &products,
+        sums: &sums,
+    };
+    let mark = InPacks::of(&products, &sums);
     counts::<
         Counting<'_, BabyBear, 1>,
         Coordinates<Counting<'_, BabyBear, 1>, 1>,
@@ -619,8 +688,12 @@ fn products_stay_within_bounds_by_one_lane(rt: HostRuntime) {
 
 #[test]
 fn products_stay_within_bounds_by_four_lanes_one_by_one(rt: HostRuntime) {
-    let count = Cell::new(0);
-    let mark = InPacks::of(&count);
+    let (products, sums) = (Cell::new(0), Cell::new(0));
+    let count = Count {
+        products: &products,
+        sums: &sums,
+    };
+    let mark = InPacks::of(&products, &sums);
     counts::<
         Counting<'_, Goldilocks, 4>,
         Coordinates<Counting<'_, Goldilocks, 4>, 1>,
@@ -630,8 +703,12 @@ fn products_stay_within_bounds_by_four_lanes_one_by_one(rt: HostRuntime) {
 
 #[test]
 fn products_stay_within_bounds_by_eight_lanes(rt: HostRuntime) {
-    let count = Cell::new(0);
-    let mark = InPacks::of(&count);
+    let (products, sums) = (Cell::new(0), Cell::new(0));
+    let count = Count {
+        products: &products,
+        sums: &sums,
+    };
+    let mark = InPacks::of(&products, &sums);
     counts::<
         Counting<'_, BabyBear, 8>,
         Coordinates<Counting<'_, BabyBear, 8>, 1>,

@@ -1,4 +1,4 @@
-// What is prepared when, of the engines that have tables, and what has no memory to take from then on.
+// What is prepared when, of the engines that have tables, and what they answer from then on.
 
 use super::algebra::is_prepared;
 use super::answers::by_tiles;
@@ -119,9 +119,9 @@ fn rows_are_left_in_bit_reversed_order(rt: HostRuntime) {
     );
 }
 
-// Once all is made that they need, calls at a prepared height and on a coset that has its table hand one
-// column on from each to the next, and take no memory.
-pub(crate) fn calls_without_memory<F: CanonicalField>(rt: &impl Abort, alloc: Global) {
+// Once all is made that they need, calls at a prepared height and on a coset that has its table hand one column on from
+// each to the next. That they take no memory `out_of_memory` shows.
+pub(crate) fn hands_a_column_on<F: CanonicalField>(rt: &impl Abort, alloc: Global) {
     let mut engine: Engine<F> = Engine::new(EngineName::Parallel);
     prepare(rt, alloc, &mut engine, 1);
     let mut engine = TestEngine::of(EngineName::Parallel, engine);

@@ -59,7 +59,7 @@ fn tiles_are_copied<F: Metered>(
 
 #[test]
 fn a_clone_keeps_its_tile(rt: HostRuntime) {
-    let count = Cell::new(0);
-    let mark = InPacks::of(&count);
+    let (count, sums) = (Cell::new(0), Cell::new(0));
+    let mark = InPacks::of(&count, &sums);
     tiles_are_copied::<Tally<BabyBear, InPacks<'_, 1>>>(&rt, rt.alloc(), &count, mark);
 }

@@ -1,5 +1,5 @@
-// A field whose products are counted in a shared cell: that is how a test counts the products of an
-// engine without asking the engine.
+// A field whose products and sums are counted in shared cells: that is how a test counts those of an engine without
+// asking the engine.
 
 ghost use Rattle.std.specs.Prelude.{◌≤◌};
 
@@ -10,14 +10,16 @@ use std::alloc::AllocError;
 use std::cell::Cell;
 use std::ops::{Add, Mul, Neg, Sub};
 
-// What counts products.
+// What counts products and sums.
 pub(crate) trait Meter: Copy {
     // Counts one product.
-    fn count(self);
+    fn count_product(self);
+
+    // Counts one sum or difference.
+    fn count_sum(self);
 }
 
-// How many elements of a field whose products a meter counts go in a pack, and whether its lanes go one after
-// another.
+// How many elements of a field that a meter counts with go in a pack, and whether its lanes go one after another.
 pub(crate) trait Packs<T: Field>: Meter {
     type Packing: PackedField<Scalar = T>;
 
@@ -26,21 +28,26 @@ pub(crate) trait Packs<T: Field>: Meter {
     ghost some: { 1 ≤ Self.Packing.WIDTH };
 }
 
-// Counts in a cell, for elements that go in packs of `LANES`.
+// Counts in two cells, for elements that go in packs of `LANES`.
 #[derive(Clone, Copy)]
 pub(crate) struct InPacks<'a, const LANES: usize> {
-    cell: &'a Cell<usize>,
+    products: &'a Cell<usize>,
+    sums: &'a Cell<usize>,
 }
 
 impl<'a, const LANES: usize> InPacks<'a, LANES> {
-    pub(crate) fn of(cell: &'a Cell<usize>) -> InPacks<'a, LANES> {
-        InPacks { cell }
+    pub(crate) fn of(products: &'a Cell<usize>, sums: &'a Cell<usize>) -> InPacks<'a, LANES> {
+        InPacks { products, sums }
     }
 }
 
 impl<'a, const LANES: usize> Meter for InPacks<'a, LANES> {
-    fn count(self) {
-        self.cell.set(self.cell.get().saturating_add(1));
+    fn count_product(self) {
+        self.products.set(self.products.get().saturating_add(1));
+    }
+
+    fn count_sum(self) {
+        self.sums.set(self.sums.get().saturating_add(1));
     }
 }
 
@@ -75,7 +82,7 @@ impl<'a, T: Field> Packs<T> for InPacks<'a, 8> {
     ghost some = { lit≤ tt };
 }
 
-// An element that may carry a mark. Every operation passes it on, and each product with a marked
+// An element that may carry a mark. Every operation passes it on, and each product, sum and difference with a marked
 // operand is counted by the mark. Its value is that of the element alone.
 #[derive_where(PartialEq, Eq, PartialOrd, Ord; F)]
 pub(crate) struct Tally<F, M> {
@@ -101,9 +108,16 @@ fn mark_of<M: Copy>(one: Option<M>, other: Option<M>) -> Option<M> {
 }
 
 // Counts one product.
-fn count<M: Meter>(mark: Option<M>) {
+fn count_product<M: Meter>(mark: Option<M>) {
     if let Some(meter) = mark {
-        meter.count();
+        meter.count_product();
+    }
+}
+
+// Counts one sum or difference.
+fn count_sum<M: Meter>(mark: Option<M>) {
+    if let Some(meter) = mark {
+        meter.count_sum();
     }
 }
 
@@ -113,9 +127,11 @@ impl<F: Field, M: Meter> Add for Tally<F, M> {
     ghost add_gives = { λ a b r. F.add_gives a.element b.element r.element };
 
     fn add(self, other: Tally<F, M>) -> Tally<F, M> {
+        let mark = mark_of(self.mark, other.mark);
+        count_sum(mark);
         Tally {
             element: self.element + other.element,
-            mark: mark_of(self.mark, other.mark),
+            mark,
         }
     }
 }
@@ -126,9 +142,11 @@ impl<F: Field, M: Meter> Sub for Tally<F, M> {
     ghost sub_gives = { λ a b r. F.sub_gives a.element b.element r.element };
 
     fn sub(self, other: Tally<F, M>) -> Tally<F, M> {
+        let mark = mark_of(self.mark, other.mark);
+        count_sum(mark);
         Tally {
             element: self.element - other.element,
-            mark: mark_of(self.mark, other.mark),
+            mark,
         }
     }
 }
@@ -140,7 +158,7 @@ impl<F: Field, M: Meter> Mul for Tally<F, M> {
 
     fn mul(self, other: Tally<F, M>) -> Tally<F, M> {
         let mark = mark_of(self.mark, other.mark);
-        count(mark);
+        count_product(mark);
         Tally {
             element: self.element * other.element,
             mark,
@@ -312,7 +330,7 @@ impl<F: Packable, M: Meter> PackedField for Tally<F, M> {
 
     fn scaled(self, t: Tally<F, M>, products: &mut Products) -> Tally<F, M> {
         let mark = mark_of(self.mark, t.mark);
-        count(mark);
+        count_product(mark);
         Tally {
             element: scaled(self.element, t.element, products),
             mark,
@@ -321,7 +339,7 @@ impl<F: Packable, M: Meter> PackedField for Tally<F, M> {
 
     fn multiplied(self, other: Tally<F, M>, products: &mut Products) -> Tally<F, M> {
         let mark = mark_of(self.mark, other.mark);
-        count(mark);
+        count_product(mark);
         Tally {
             element: scaled(self.element, other.element, products),
             mark,
@@ -390,7 +408,7 @@ impl<F: CanonicalField, M: Packs<Tally<F, M>>> CanonicalField for Tally<F, M> {
     ghost count_law = { F.count_law };
 }
 
-// A field whose products a mark counts. Tests are over one such field, so that they do not show of each `Tally` anew
+// A field whose products and sums a mark counts. Tests are over one such field, so that they do not show of each `Tally` anew
 // what is known of it.
 pub(crate) trait Metered: CanonicalField {
     type Mark: Copy;
