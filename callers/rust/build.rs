@@ -1,7 +1,7 @@
 //! Links the static library `libliktrob.a`, which `tools/build_library` of Liktrob's repository makes.
 
 use std::env;
-use std::path::{Path, PathBuf};
+use std::path::PathBuf;
 
 const ARCHIVE: &str = "libliktrob.a";
 
@@ -14,9 +14,10 @@ fn is_for_newer() -> bool {
     NEWER.iter().all(|newer| features.split(',').any(|feature| feature == *newer))
 }
 
-/// The folder that `LIKTROB_LIB` names, or else `../lib`, where the archives lie beside this crate in `dist/`.
+/// The folder that `LIKTROB_LIB` names, or else `../lib`, where the archives lie beside this crate in `dist/`. The place
+/// of the crate is read at run time: cargo may keep the script of a crate at another place.
 fn folder_of_archive() -> Option<PathBuf> {
-    let beside = Path::new(env!("CARGO_MANIFEST_DIR")).join("../lib");
+    let beside = PathBuf::from(env::var_os("CARGO_MANIFEST_DIR")?).join("../lib");
     let folders = match env::var_os("LIKTROB_LIB").filter(|named| !named.is_empty()) {
         Some(named) => vec![PathBuf::from(named)],
         None if is_for_newer() => vec![beside.join("x86-64-v3"), beside],
@@ -27,6 +28,7 @@ fn folder_of_archive() -> Option<PathBuf> {
 
 fn main() {
     println!("cargo::rerun-if-env-changed=LIKTROB_LIB");
+    println!("cargo::rerun-if-env-changed=CARGO_MANIFEST_DIR");
     println!("cargo::rustc-check-cfg=cfg(docsrs)");
     // Documents are made without the archive.
     if env::var_os("DOCS_RS").is_some() {
