@@ -58,8 +58,8 @@ module _ {F : Type 0} (f : FieldMembers F) (generator : ℕ → F) where
   -- the transform of the columns, each times the powers of its shift
   pub transform_by_columns : (bits : ℕ) (m c out : RowMajor F) (shifts : ℕ → f.Element) → FitsDft bits (height m) m.width → Same (values_of f c) (columns_shifted f.ring shifts (values_of f m))
       → IsTransform f generator c f.ring.one out → IsTransformByColumns f generator m shifts out
-  transform_by_columns bits m c out shifts fits same transform = record {
-    width = (transform fits.log (same.height ∙ fits.height)).width ∙ same.width;
+  transform_by_columns bits m c out shifts fits same transform = let whole = transform fits.log (same.height ∙ fits.height) in record {
+    shape = (whole.height ∙ sym fits.height, whole.width ∙ same.width);
     columns = λ k j high inside.
         coset_values f.ring (λ n. f.value (generator n)) (alone j (values_of f m)) (alone j (values_of f c)) k (shifts j) (alone j (values_of f out))
         (alone_shifted f.ring (values_of f m) (values_of f c) shifts j inside same)
@@ -71,7 +71,7 @@ module _ {F : Type 0} (f : FieldMembers F) (generator : ℕ → F) where
     pub interpolation_by_columns : (m c d : RowMajor F) (shifts inverses : ℕ → f.Element) → FitsDft bits (height m) m.width → ((j : ℕ) → j < m.width → IsInverse f.ring (shifts j) (inverses j))
         → IsInterpolation f generator m f.ring.one c → Same (values_of f d) (columns_shifted f.ring inverses (values_of f c)) → IsInterpolationByColumns f generator m shifts d
     interpolation_by_columns m c d shifts inverses fits inverse on_subgroup same = record {
-      width = same.width ∙ are.width;
+      shape = (same.height ∙ are.height, same.width ∙ are.width);
       holds = holds;
       only = λ k high other wide all. record {
         height = (all 0 fits.width).height ∙ sym are.height ∙ sym same.height;

@@ -45,7 +45,7 @@ same_place i j w d t = ap (λ n. n + t) (add-mul (i * w) j d ∙ ap (λ n. n + j
 
 module _ {V F : Type 0} (v : SpaceMembers V F) (counted : (x : V) → length (v.coordinates x) ≡ v.DIMENSION) (t : ℕ) (within : t < v.DIMENSION) where
   -- coordinate t of element n, among all coordinates
-  coordinate-place : (d : F) (xs : List V) (n : ℕ) → n < length xs
+  pub coordinate-place : (d : F) (xs : List V) (n : ℕ) → n < length xs
       → get_or (map (λ x. get_or (v.coordinates x) t d) xs) n d ≡ get_or (flat_map v.coordinates xs) (n * v.DIMENSION + t) d
   coordinate-place d [] n below = absurd (omega (arith, below))
   coordinate-place d (x ∷ xs) zero below =
