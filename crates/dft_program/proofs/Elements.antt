@@ -27,7 +27,8 @@ false_unless true h = absurd (h refl)
 false_unless false h = refl
 
 -- and this one is below the bound that none reaches
-pub all_below : {X : Type 0} (bound : ℕ) (f : X → ℕ) (xs : List X) (i : ℕ) (d : X) → i < length xs → list_any (λ n. nat_le bound n) (map f xs) ≡ false → f (get_or xs i d) < bound
+pub all_below : {X : Type 0} (bound : ℕ) (f : X → ℕ) (xs : List X) (i : ℕ) (d : X) → i < length xs
+    → list_any (λ n. nat_le bound n) (map f xs) ≡ false → f (get_or xs i d) < bound
 all_below bound f xs i d h none =
     let fails : nat_le bound (f (get_or xs i d)) ≡ false = fails_at (λ n. nat_le bound n) f xs i d h none in
     grind (arith, nat_tests)

@@ -1,5 +1,6 @@
 -- Inverses as a test of numbers.
-use Rattle.std.proofs.Common.{◌≡◌, ℕ, ◌<◌, ◌==◌, Bool, true, false, ◌||◌, List, [], ◌∷◌, length, get_or, Option, Some, None, is_some, IfSome, IsNone, refl, sym, ap, ◌∙◌, arith, eq-eqb}
+use Rattle.std.proofs.Common.{◌≡◌, ℕ, ◌<◌, ◌==◌, Bool, true, false, ◌||◌, List, [], ◌∷◌, length, get_or, Option, Some}
+use Rattle.std.proofs.Common.{None, is_some, IfSome, IsNone, refl, sym, ap, ◌∙◌, arith, eq-eqb}
 use Rattle.std.specs.List.{list_any, range_with_len}
 use Rattle.std.proofs.lemmas.Bool.{eqb-true}
 use Rattle.std.proofs.lemmas.List.Folds.{list_any_at}
@@ -47,14 +48,16 @@ module _ {F : Type 0} (f : FieldMembers F) (generator : ℕ → F) (two_adicity 
   pub finds : (x : F) (o : Option F) (number : ℕ) → f.number (f.value x) ≡ number → IfSome o (λ y. IsInverse f.ring (f.value x) (f.value y))
       → (IsNone o → ¬ (IsInvertible f.ring (f.value x))) → is_some o ≡ has_inverse (numbered f generator two_adicity modulus element) (element number)
   finds x (Some y) number is some none =
-      rw (sym is, element_is x) (sym (has_inverse-true (numbered f generator two_adicity modulus element) (f.value x) (f.value y) (below y) (element_is y) some))
+      rw (sym is, element_is x) (sym (has_inverse-true (numbered f generator two_adicity modulus element) (f.value x)
+      (f.value y) (below y) (element_is y) some))
   finds x None number is some none =
       rw (sym is, element_is x)
       (false_unless (has_inverse (numbered f generator two_adicity modulus element) (f.value x))
       (λ e. none refl (has_inverse-from_true (numbered f generator two_adicity modulus element) (f.value x) injective e)))
 
 -- the inverse that was found is one of each element of that number
-pub inverts : {F : Type 0} (f : FieldMembers F) → ((a b : f.Element) → f.number a ≡ f.number b → a ≡ b) → (x y : F) (o : Option F) → f.number (f.value y) ≡ f.number (f.value x)
+pub inverts : {F : Type 0} (f : FieldMembers F) → ((a b : f.Element) → f.number a ≡ f.number b → a ≡ b)
+    → (x y : F) (o : Option F) → f.number (f.value y) ≡ f.number (f.value x)
     → IfSome o (λ z. IsInverse f.ring (f.value x) (f.value z)) → is_some o ≡ true → IsInvertible f.ring (f.value y)
 inverts f injective x y (Some z) same some is = (f.value z, ap (λ a. f.ring.mul a (f.value z)) (injective (f.value y) (f.value x) same) ∙ some)
 inverts f injective x y None same some is = absurd (cc)

@@ -1,5 +1,6 @@
 -- The words have one outcome: there is one, and no other.
-use Rattle.std.proofs.Common.{◌≡◌, ℕ, ◌/◌, Bool, true, false, not, List, [], ◌∷◌, length, map, drop, Option, Some, None, Result, Ok, Err, refl, sym, ap, ap₂, ◌∙◌, subst}
+use Rattle.std.proofs.Common.{◌≡◌, ℕ, ◌/◌, Bool, true, false, not, List, [], ◌∷◌, length, map, drop, Option, Some, None}
+use Rattle.std.proofs.Common.{Result, Ok, Err, refl, sym, ap, ap₂, ◌∙◌, subst}
 use Rattle.std.specs.Global.{Global}
 use Rattle.std.specs.Prelude.{⊤, Vec}
 use Rattle.std.proofs.lemmas.List.{length-map}
@@ -47,17 +48,20 @@ read_whole : {T : Type 0} (o : Option Fault) (value read : T) → unless_fault o
 read_whole None value read e = (refl, cc)
 read_whole (Some fault) value read e = absurd (cc)
 
-module _ {A : Type 0} (f : NumberedField A) (are_roots : AreRoots f.ring f.two_adicity f.generator) (injective : (x y : A) → f.number x ≡ f.number y → x ≡ y) where
+module _ {A : Type 0} (f : NumberedField A) (are_roots : AreRoots f.ring f.two_adicity f.generator)
+    (injective : (x y : A) → f.number x ≡ f.number y → x ≡ y) where
   -- a text is that of the one answer
   one_text : (job : Job A) (t u : List ℕ) → CanRun (members f) f.two_adicity job → IsText f job t → IsText f job u → t ≡ u
   one_text job t u can x y =
-      let same : Same (matrix f.ring.zero x.answer) (matrix f.ring.zero y.answer) = one_answer (members f) f.generator f.two_adicity are_roots job x.answer y.answer can x.answers y.answers in
+      let same : Same (matrix f.ring.zero x.answer) (matrix f.ring.zero y.answer) =
+      one_answer (members f) f.generator f.two_adicity are_roots job x.answer y.answer can x.answers y.answers in
       let one_rows : rows x.answer ≡ rows y.answer =
       sym (list_of_rows_stored f.ring.zero x.answer x.whole) ∙ list_of_rows_same _ _ same ∙ list_of_rows_stored f.ring.zero y.answer y.whole in
       x.shown ∙ ap (λ rs. text_of_rows (map (map f.number) rs)) one_rows ∙ sym y.shown
 
   -- words with no fault ask for a job that can be run
-  asks_for_one : (operation : Operation) (words : List (List ℕ)) (a : Arguments) → arguments f operation words ≡ Ok a → CanRun (members f) f.two_adicity (asked_job f operation a)
+  asks_for_one : (operation : Operation) (words : List (List ℕ)) (a : Arguments) → arguments f operation words ≡ Ok a
+      → CanRun (members f) f.two_adicity (asked_job f operation a)
   asks_for_one operation words a e =
       let read = read_whole (first_fault (faults f operation words)) (arguments_of operation (map number_or_zero words)) a e in
       let absent = none_there (faults f operation words) read.0 in
@@ -67,7 +71,8 @@ module _ {A : Type 0} (f : NumberedField A) (are_roots : AreRoots f.ring f.two_a
       let fits : FitsLde f.two_adicity (length (map f.element a.values) / a.width) a.width a.added_bits =
       rw (length-map a.values f.element) (unfit-false f.two_adicity (length a.values) a.width a.added_bits unfit) in
       can_run (members f) f.two_adicity operation (record { width = a.width; values = map f.element a.values }) a.added_bits (f.element a.shift) fits
-      (λ undoes. has_inverse-from_true f (f.element a.shift) injective (undone (has_inverse f (f.element a.shift)) (subst (λ (o : Operation). cannot_undo f o a.shift ≡ false) undoes stuck)))
+      (λ undoes. has_inverse-from_true f (f.element a.shift) injective (undone (has_inverse f (f.element a.shift))
+      (subst (λ (o : Operation). cannot_undo f o a.shift ≡ false) undoes stuck)))
     where
       undone : (b : Bool) → not b ≡ false → b ≡ true
       undone true e = refl
@@ -76,10 +81,12 @@ module _ {A : Type 0} (f : NumberedField A) (are_roots : AreRoots f.ring f.two_a
   one_over : (operation : Operation) (words : List (List ℕ)) (r : Result Arguments Fault) (o p : Outcome) → arguments f operation words ≡ r
       → FaultOr r (IsAnswered f operation) o → FaultOr r (IsAnswered f operation) p → o ≡ p
   one_over operation words (Ok a) o p e x y =
-      ap₂ (λ status text. record { status = status; text = text }) (x.0 ∙ sym y.0) (one_text (asked_job f operation a) o.text p.text (asks_for_one operation words a e) x.1 y.1)
+      ap₂ (λ status text. record { status = status; text = text }) (x.0 ∙ sym y.0)
+      (one_text (asked_job f operation a) o.text p.text (asks_for_one operation words a e) x.1 y.1)
   one_over operation words (Err fault) o p e x y = x ∙ sym y
 
-  some_over : (operation : Operation) (words : List (List ℕ)) (r : Result Arguments Fault) → arguments f operation words ≡ r → (o : Outcome) × FaultOr r (IsAnswered f operation) o
+  some_over : (operation : Operation) (words : List (List ℕ)) (r : Result Arguments Fault)
+      → arguments f operation words ≡ r → (o : Outcome) × FaultOr r (IsAnswered f operation) o
   some_over operation words (Ok a) e =
       let found = some_answer f are_roots (asked_job f operation a) (asks_for_one operation words a e) in (
         record { status = 0; text = text_of_rows (map (map f.number) (rows found.answer)) },
@@ -89,12 +96,15 @@ module _ {A : Type 0} (f : NumberedField A) (are_roots : AreRoots f.ring f.two_a
 
 module _ (f : FieldNumbers) (operation : Operation) (words : List (List ℕ)) where
   one_of_field : (o p : Outcome) → IsOutcomeOver (residue_field f) operation words o → IsOutcomeOver (residue_field f) operation words p → o ≡ p
-  one_of_field o p x y = one_over (residue_field f) (are_field_generators f) residue-eq operation words (arguments (residue_field f) operation words) o p refl x y
+  one_of_field o p x y =
+      one_over (residue_field f) (are_field_generators f) residue-eq operation words
+      (arguments (residue_field f) operation words) o p refl x y
 
   some_of_field : (o : Outcome) × IsOutcomeOver (residue_field f) operation words o
   some_of_field = some_over (residue_field f) (are_field_generators f) residue-eq operation words (arguments (residue_field f) operation words) refl
 
-one_in : (name : FieldName) (operation : Operation) (words : List (List ℕ)) (o p : Outcome) → IsOutcomeIn name operation words o → IsOutcomeIn name operation words p → o ≡ p
+one_in : (name : FieldName) (operation : Operation) (words : List (List ℕ)) (o p : Outcome)
+    → IsOutcomeIn name operation words o → IsOutcomeIn name operation words p → o ≡ p
 one_in BabyBear operation words o p x y = one_of_field baby_bear_numbers operation words o p x y
 one_in Goldilocks operation words o p x y = one_of_field goldilocks_numbers operation words o p x y
 
@@ -124,7 +134,8 @@ answerable : (words : List (List ℕ)) → ((o : Outcome) → IsOutcome words o 
 answerable words all = let one = one_outcome words in (one.0, one.1, one.2, all one.0 one.1)
 
 -- and where memory ran out
-pub answerable_without_memory : (words : List (List ℕ)) (s : Stopped) (r : Result (Vec ℕ Global) Stopped) → r ≡ Err s → s ≡ OutOfMemory → Gives r (IsOutcome words) → SomeRefused × IsAnswerable words
+pub answerable_without_memory : (words : List (List ℕ)) (s : Stopped) (r : Result (Vec ℕ Global) Stopped) → r ≡ Err s
+    → s ≡ OutOfMemory → Gives r (IsOutcome words) → SomeRefused × IsAnswerable words
 answerable_without_memory words s r stopped is gives =
     let told = subst (λ (given : Result (Vec ℕ Global) Stopped). Gives given (IsOutcome words)) (stopped ∙ ap Err is) gives in
     (told.1, answerable words told.0)

@@ -32,7 +32,9 @@ either_some bytes n other m small fewer e (inl within) = within_some bytes n sma
 either_some bytes n other m small fewer e (inr within) = within_some other m fewer e within
 
 -- and that of a list of jobs
-pub ran_out_some : {E F : Type 0} (facts : EngineFacts E F) (bytes matrix_bytes : ℕ) (after : E) (jobs : List (Job F)) (answers : List (RowMajor F)) (any : Job F)
+pub ran_out_some : {E F : Type 0} (facts : EngineFacts E F) (bytes matrix_bytes : ℕ) (after : E) (jobs : List (Job F))
+    (answers : List (RowMajor F)) (any : Job F)
     → bytes ≤ 64 → matrix_bytes ≤ 64 → facts.table_bytes ≤ 64 → (e : DftError) → RanOut facts bytes matrix_bytes after jobs answers e → SomeRefused
 ran_out_some facts bytes matrix_bytes after jobs answers any small list tables e (inl within) = within_some matrix_bytes _ list e within
-ran_out_some facts bytes matrix_bytes after jobs answers any small list tables e (inr given) = either_some bytes _ facts.table_bytes _ small tables e (given any)
+ran_out_some facts bytes matrix_bytes after jobs answers any small list tables e (inr given) =
+    either_some bytes _ facts.table_bytes _ small tables e (given any)

@@ -1,5 +1,6 @@
 -- Logarithms and shapes as tests.
-use Rattle.std.proofs.Common.{◌≡◌, ◌≢◌, ℕ, zero, suc, ◌+◌, ◌*◌, ◌/◌, ◌%◌, ◌^◌, ◌<◌, ◌≤◌, Bool, true, false, not, ◌||◌, ◌==◌, Option, Some, None, is_some, ◌↔◌, refl, sym, ap, ◌∙◌, arith, IsTrue, eq-eqb}
+use Rattle.std.proofs.Common.{◌≡◌, ◌≢◌, ℕ, zero, suc, ◌+◌, ◌*◌, ◌/◌, ◌%◌, ◌^◌, ◌<◌, ◌≤◌, Bool, true, false, not, ◌||◌}
+use Rattle.std.proofs.Common.{◌==◌, Option, Some, None, is_some, ◌↔◌, refl, sym, ap, ◌∙◌, arith, IsTrue, eq-eqb}
 use Rattle.std.proofs.lemmas.Bool.{ne_eqb}
 use Rattle.std.proofs.lemmas.Bool.Decides.{nat_tests}
 use Rattle.p3_matrix.proofs.TwoPowers.{log_same}
@@ -46,7 +47,8 @@ fits_lde-from_true t h w a (Some n) is e =
     record { log = n; within = within; height = (logarithm-some t h n is).1; width = wide; size = size }
 
 -- the test of a shape decides that it fits
-pub fits_lde-decides : (two_adicity height width added : ℕ) (r : Bool) → IsTrue r ↔ FitsLde two_adicity height width added → r ≡ fits_lde two_adicity height width added
+pub fits_lde-decides : (two_adicity height width added : ℕ) (r : Bool)
+    → IsTrue r ↔ FitsLde two_adicity height width added → r ≡ fits_lde two_adicity height width added
 fits_lde-decides t h w a true d = sym (fits_lde-true t h w a (d.0 refl))
 fits_lde-decides t h w a false d = false_unless (fits_lde t h w a) (λ e. absurd (cc (d.1 (fits_lde-from_true t h w a (logarithm t h) refl e))))
 
@@ -57,7 +59,9 @@ unfit t count width added r some whole e = rw (ne_eqb width 0 some, eq-eqb (coun
 
 -- and where it is false, the shape fits
 pub unfit-false : (two_adicity count width added : ℕ) → is_unfit two_adicity count width added ≡ false → FitsLde two_adicity (count / width) width added
-unfit-false t count width added e = fits_lde-from_true t (count / width) width added (logarithm t (count / width)) refl (last (width == 0) (not (count % width == 0)) (fits_lde t (count / width) width added) e)
+unfit-false t count width added e =
+    fits_lde-from_true t (count / width) width added (logarithm t (count / width)) refl
+    (last (width == 0) (not (count % width == 0)) (fits_lde t (count / width) width added) e)
   where
     last : (a b c : Bool) → (a || (b || not c)) ≡ false → c ≡ true
     last true b c e = absurd (cc)

@@ -25,12 +25,16 @@ abbrev stored : {T : Type 0} → Matrix T → RowMajor T
 stored m = record { width = m.width; values = map (λ n. m.entry (n / m.width) (n % m.width)) (range_with_len 0 (m.height * m.width)) }
 
 stored_high : {T : Type 0} (m : Matrix T) → 1 ≤ m.width → height (stored m) ≡ m.height
-stored_high m wide = (whole_rows (length (stored m).values) m.height m.width wide (length-map-range_with_len (λ n. m.entry (n / m.width) (n % m.width)) 0 (m.height * m.width))).0
+stored_high m wide =
+    (whole_rows (length (stored m).values) m.height m.width wide
+    (length-map-range_with_len (λ n. m.entry (n / m.width) (n % m.width)) 0 (m.height * m.width))).0
 
 stored_whole : {T : Type 0} (m : Matrix T) → 1 ≤ m.width → IsRowMajor (stored m)
 stored_whole m wide = record {
   width = wide;
-  full = (whole_rows (length (stored m).values) m.height m.width wide (length-map-range_with_len (λ n. m.entry (n / m.width) (n % m.width)) 0 (m.height * m.width))).1;
+  full =
+      (whole_rows (length (stored m).values) m.height m.width wide
+      (length-map-range_with_len (λ n. m.entry (n / m.width) (n % m.width)) 0 (m.height * m.width))).1;
 }
 
 -- is the same by index
@@ -62,14 +66,16 @@ module _ {A : Type 0} (f : NumberedField A) (are_roots : AreRoots f.ring f.two_a
       let all : Matrix A = values_on_coset f.ring f.generator c k s in
       values_of_same f.ring f.generator c k s (values (stored all)) (stored_same f.ring.zero all wide)
 
-  some_transform : (m : RowMajor A) (s : A) → FitsDft f.two_adicity (height m) m.width → (out : RowMajor A) × (IsRowMajor out × IsTransform (members f) f.generator m s out)
+  some_transform : (m : RowMajor A) (s : A) → FitsDft f.two_adicity (height m) m.width
+      → (out : RowMajor A) × (IsRowMajor out × IsTransform (members f) f.generator m s out)
   some_transform m s fits =
       let all : Matrix A = values_on_coset f.ring f.generator (values m) fits.log s in (
         stored all,
         (
           stored_whole all fits.width,
           λ k e.
-              subst (λ (n : ℕ). IsValues f.ring f.generator (values m) n s (values (stored all))) (log_same fits.log k (sym fits.height ∙ e)) (has_values (values m) fits.log s fits.width),
+              subst (λ (n : ℕ). IsValues f.ring f.generator (values m) n s (values (stored all)))
+              (log_same fits.log k (sym fits.height ∙ e)) (has_values (values m) fits.log s fits.width),
         ),
       )
 
@@ -77,19 +83,23 @@ module _ {A : Type 0} (f : NumberedField A) (are_roots : AreRoots f.ring f.two_a
       → (out : RowMajor A) × (IsRowMajor out × IsInterpolation (members f) f.generator m s out)
   some_interpolation m s t fits inverse =
       let c : Matrix A = interpolated f.ring are_roots fits.log t (values m) in
-      let are : AreCoefficients f.ring f.generator (values m) fits.log s c = there_is_one f.ring are_roots (values m) fits.log s t fits.within fits.height inverse in
+      let are : AreCoefficients f.ring f.generator (values m) fits.log s c =
+      there_is_one f.ring are_roots (values m) fits.log s t fits.within fits.height inverse in
       let wide : 1 ≤ c.width = omega (arith, are.width, fits.width) in
       let stored_are : AreCoefficients f.ring f.generator (values m) fits.log s (values (stored c)) =
       same_coefficients f.ring are_roots (values m) fits.log s c (values (stored c)) (same_sym (values (stored c)) c (stored_same f.ring.zero c wide)) are in
       let holds : (k : ℕ) → height m ≡ 2 ^ k → AreCoefficients f.ring f.generator (values m) k s (values (stored c)) =
-      λ k e. subst (λ (n : ℕ). AreCoefficients f.ring f.generator (values m) n s (values (stored c))) (log_same fits.log k (sym fits.height ∙ e)) stored_are in (
+      λ k e. subst (λ (n : ℕ). AreCoefficients f.ring f.generator (values m) n s (values (stored c)))
+      (log_same fits.log k (sym fits.height ∙ e)) stored_are in (
         stored c,
         (
           stored_whole c wide,
           record {
             holds = holds;
             only = λ k e d other.
-                there_is_no_other f.ring are_roots (values m) k s (omega (arith, log_same fits.log k (sym fits.height ∙ e), fits.within)) (t, inverse) d (values (stored c)) other (holds k e);
+                there_is_no_other f.ring are_roots (values m) k s
+                (omega (arith, log_same fits.log k (sym fits.height ∙ e), fits.within)) (t, inverse) d
+                (values (stored c)) other (holds k e);
           },
         ),
       )
@@ -110,7 +120,8 @@ module _ {A : Type 0} (f : NumberedField A) (are_roots : AreRoots f.ring f.two_a
             coefficients = c;
             are_coefficients = λ k e. subst (λ (n : ℕ). AreCoefficients f.ring f.generator (values m) n one c) (log_same fits.log k (sym fits.height ∙ e)) are;
             extended = λ k e.
-                subst (λ (n : ℕ). IsValues f.ring f.generator c (n + a) s (values (stored all))) (log_same fits.log k (sym fits.height ∙ e)) (has_values c (fits.log + a) s wide);
+                subst (λ (n : ℕ). IsValues f.ring f.generator c (n + a) s (values (stored all)))
+                (log_same fits.log k (sym fits.height ∙ e)) (has_values c (fits.log + a) s wide);
           },
         ),
       )

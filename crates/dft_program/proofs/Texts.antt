@@ -1,5 +1,6 @@
 -- Words, and their texts, ask for the same.
-use Rattle.std.proofs.Common.{◌≡◌, ℕ, Bool, true, false, List, [], ◌∷◌, map, drop, Option, Some, None, Result, Ok, Err, option_map, ◌&&◌, nat_lt, arith, refl, sym, ap, ◌∙◌, subst, if◌then◌else◌}
+use Rattle.std.proofs.Common.{◌≡◌, ℕ, Bool, true, false, List, [], ◌∷◌, map, drop, Option, Some, None, Result, Ok, Err}
+use Rattle.std.proofs.Common.{option_map, ◌&&◌, nat_lt, arith, refl, sym, ap, ◌∙◌, subst, if◌then◌else◌}
 use Rattle.std.specs.List.{drop-map, list_all, slice_get}
 use Rattle.std.specs.Str.{IsUtf8, bytes_eq, is_utf8}
 use Rattle.std.proofs.lemmas.Slice.Eq.{bytes_eq-Decides}
@@ -41,7 +42,9 @@ both true b e = (refl, e)
 both false b e = absurd (cc)
 
 is_ascii-All : (name : List ℕ) → is_ascii name ≡ true → IsUtf8 name
-is_ascii-All name all = let passed = AllPass-from_list_all (λ b. nat_lt b 128) name all in IsUtf8-from_ascii name (IsAscii-from_all name (grind (arith, nat_tests, passed)))
+is_ascii-All name all =
+    let passed = AllPass-from_list_all (λ b. nat_lt b 128) name all in
+    IsUtf8-from_ascii name (IsAscii-from_all name (grind (arith, nat_tests, passed)))
 
 -- names of ASCII are not such a word
 unnamed : {T : Type 0} (word : List ℕ) → (IsUtf8 word → ⊥) → (rows : List (List ℕ × T)) → list_all (λ row. is_ascii row.0) rows ≡ true → behind word rows ≡ None
@@ -97,10 +100,12 @@ has_no_number-texts : (words : List (List ℕ)) → has_no_number (map text_of_w
 has_no_number-texts [] = refl
 has_no_number-texts (word ∷ words) = rw (number_of_text word, has_no_number-texts words) refl
 
-arguments_of_texts : {A : Type 0} (f : NumberedField A) (operation : Operation) (words : List (List ℕ)) → arguments f operation (map text_of_word words) ≡ arguments f operation words
+arguments_of_texts : {A : Type 0} (f : NumberedField A) (operation : Operation) (words : List (List ℕ))
+    → arguments f operation (map text_of_word words) ≡ arguments f operation words
 arguments_of_texts f operation words = rw (length-map words text_of_word, has_no_number-texts words, numbers_of_texts words) refl
 
-outcome_in : (field : FieldName) (operation : Operation) (words : List (List ℕ)) (o : Outcome) → IsOutcomeIn field operation (map text_of_word words) o → IsOutcomeIn field operation words o
+outcome_in : (field : FieldName) (operation : Operation) (words : List (List ℕ)) (o : Outcome)
+    → IsOutcomeIn field operation (map text_of_word words) o → IsOutcomeIn field operation words o
 outcome_in BabyBear operation words o is = rw (← arguments_of_texts (residue_field baby_bear_numbers) operation words) is
 outcome_in Goldilocks operation words o is = rw (← arguments_of_texts (residue_field goldilocks_numbers) operation words) is
 

@@ -1,5 +1,7 @@
 -- Words that were told one after another, and their texts.
-use Rattle.std.proofs.Common.{◌≡◌, ℕ, ◌+◌, Bool, true, false, String, Vec, IfOk, IsOk, refl, subst, if◌then◌else◌, List, [], ◌∷◌, ◌++◌, length, map, Option, Some, option_map, Result, Ok, Err, OnErr, ◌⊎◌, inl, inr, ap, sym, ◌∙◌, add-zero, append_assoc, arith}
+use Rattle.std.proofs.Common.{◌≡◌, ℕ, ◌+◌, Bool, true, false, String, Vec, IfOk, IsOk, refl, subst, if◌then◌else◌, List}
+use Rattle.std.proofs.Common.{[], ◌∷◌, ◌++◌, length, map, Option, Some, option_map, Result, Ok, Err, OnErr, ◌⊎◌, inl}
+use Rattle.std.proofs.Common.{inr, ap, sym, ◌∙◌, add-zero, append_assoc, arith}
 use Rattle.std.proofs.lemmas.List.{length-map, map-append}
 use Rattle.std.proofs.lemmas.Str.{IsUtf8-from_is_utf8, IsUtf8-string_bytes, is_utf8-from_IsUtf8}
 use Rattle.std.specs.Result.{result_unwrap_or}
@@ -31,7 +33,8 @@ abbrev pub KeptFirst : {X : Type 0} → (X → List ℕ) → List Told → List 
 KeptFirst bytes old new kept = (words : List (List ℕ)) × ToldFirst old new words × (map bytes kept ≡ map text_of_word words)
 
 -- the same of texts that were kept, and of a word that may have been there
-module _ {X : Type 0} (bytes : X → List ℕ) (old mid new : List Told) (kept : List X) (n : ℕ) (so_far : KeptFirst bytes old mid kept) (many : n ≡ length kept) where
+module _ {X : Type 0} (bytes : X → List ℕ) (old mid new : List Told) (kept : List X) (n : ℕ)
+    (so_far : KeptFirst bytes old mid kept) (many : n ≡ length kept) where
   as_many : n ≡ length so_far.0
   as_many = many ∙ sym (length-map kept bytes) ∙ ap length so_far.2 ∙ length-map so_far.0 text_of_word
 
@@ -39,9 +42,12 @@ module _ {X : Type 0} (bytes : X → List ℕ) (old mid new : List Told) (kept :
   maybe_one_more (inl same) = (so_far.0, same ∙ so_far.1)
   maybe_one_more (inr one) = (so_far.0 ++ one.0 ∷ [], one_more old mid new so_far.0 n so_far.1 as_many one.0 one.1)
 
-  module _ {W : Type 0} (view : W → List ℕ) (found : Option W) (word : W) (is : new ≡ mid ++ told_at (1 + n) (option_map view found)) (there : found ≡ Some word) where
+  module _ {W : Type 0} (view : W → List ℕ) (found : Option W) (word : W)
+      (is : new ≡ mid ++ told_at (1 + n) (option_map view found)) (there : found ≡ Some word) where
     pub one_told : ToldFirst old new (so_far.0 ++ view word ∷ [])
-    one_told = one_more old mid new so_far.0 n so_far.1 as_many (view word) (is ∙ ap (λ (found : Option W). mid ++ told_at (1 + n) (option_map view found)) there)
+    one_told =
+        one_more old mid new so_far.0 n so_far.1 as_many (view word)
+        (is ∙ ap (λ (found : Option W). mid ++ told_at (1 + n) (option_map view found)) there)
 
     pub one_kept : (text : X) → bytes text ≡ text_of_word (view word) → KeptFirst bytes old new (kept ++ text ∷ [])
     one_kept text same = (
@@ -54,7 +60,8 @@ module _ {X : Type 0} (bytes : X → List ℕ) (old mid new : List Told) (kept :
     )
 
 -- the text of a word is what was read of it, where that is UTF-8
-pub text_of : {Z E : Type 0} (word : Vec ℕ Z) (read : Result (String Z) E) (empty : String Z) → IfOk read (λ text. string_vec text ≡ word) → (IsUtf8 (vec_items word) → IsOk read)
+pub text_of : {Z E : Type 0} (word : Vec ℕ Z) (read : Result (String Z) E) (empty : String Z)
+    → IfOk read (λ text. string_vec text ≡ word) → (IsUtf8 (vec_items word) → IsOk read)
     → string_bytes empty ≡ [] → string_bytes (result_unwrap_or read empty) ≡ text_of_word (vec_items word)
 text_of word (Ok text) empty same reads none =
     let bytes : string_bytes text ≡ vec_items word = ap vec_items same in

@@ -56,7 +56,8 @@ each_whole f m whole = record {
 rows_of_each : {X Y : Type 0} (f : X → Y) (m : RowMajor X) → rows (each f m) ≡ map (map f) (rows m)
 rows_of_each f m =
     map_alike (row (each f m)) (λ i. map f (row m i)) (range_with_len 0 (height (each f m)))
-    (λ i. ap (take (i * m.width + m.width - i * m.width)) (drop-map f (i * m.width) m.values) ∙ take-map f (i * m.width + m.width - i * m.width) (drop (i * m.width) m.values))
+    (λ i. ap (take (i * m.width + m.width - i * m.width)) (drop-map f (i * m.width) m.values)
+    ∙ take-map f (i * m.width + m.width - i * m.width) (drop (i * m.width) m.values))
     ∙ ap (λ h. map (λ i. map f (row m i)) (range_with_len 0 h)) (each_high f m)
     ∙ sym (map-map (map f) (row m) (range_with_len 0 (height m)))
 
@@ -87,7 +88,8 @@ module _ {F : Type 0} (f : FieldMembers F) (generator : ℕ → F) (two_adicity 
   high_back : (m : RowMajor F) (k : ℕ) → height (valued m) ≡ 2 ^ k → height m ≡ 2 ^ k
   high_back m k e = sym (each_high f.value m) ∙ e
 
-  coefficients_back : (m : RowMajor F) (k : ℕ) (s : f.Element) (c : Matrix f.Element) → AreCoefficients f.ring roots (values_of (members field) (valued m)) k s c
+  coefficients_back : (m : RowMajor F) (k : ℕ) (s : f.Element) (c : Matrix f.Element)
+      → AreCoefficients f.ring roots (values_of (members field) (valued m)) k s c
       → AreCoefficients f.ring roots (values_of f m) k s c
   coefficients_back m k s c are = coefficients_of_same f.ring are_roots (values_of (members field) (valued m)) (values_of f m) k s c (back m) are
 
@@ -101,7 +103,8 @@ module _ {F : Type 0} (f : FieldMembers F) (generator : ℕ → F) (two_adicity 
       (coefficients_same f.ring roots (values_of f m) (values_of (members field) (valued m)) k s (values_of f out) (same m) (transform k (high_back m k e)))
       (same out)
 
-  interpolation_valued : (m out : RowMajor F) (s : f.Element) → IsInterpolation f generator m s out → IsInterpolation (members field) roots (valued m) s (valued out)
+  interpolation_valued : (m out : RowMajor F) (s : f.Element) → IsInterpolation f generator m s out
+      → IsInterpolation (members field) roots (valued m) s (valued out)
   interpolation_valued m out s interpolation = record {
     holds = λ k e.
         same_coefficients f.ring are_roots (values_of (members field) (valued m)) k s (values_of f out) (values_of (members field) (valued out)) (same out)
@@ -111,7 +114,8 @@ module _ {F : Type 0} (f : FieldMembers F) (generator : ℕ → F) (two_adicity 
         (interpolation.only k (high_back m k e) d (coefficients_back m k s d are)) (same out);
   }
 
-  extension_valued : (m out : RowMajor F) (a : ℕ) (s : f.Element) → IsExtension f generator m a s out → IsExtension (members field) roots (valued m) a s (valued out)
+  extension_valued : (m out : RowMajor F) (a : ℕ) (s : f.Element) → IsExtension f generator m a s out
+      → IsExtension (members field) roots (valued m) a s (valued out)
   extension_valued m out a s extension = record {
     coefficients = extension.coefficients;
     are_coefficients = λ k e. coefficients_forth m k f.ring.one extension.coefficients (extension.are_coefficients k (high_back m k e));
@@ -141,7 +145,8 @@ module _ {F : Type 0} (f : FieldMembers F) (generator : ℕ → F) (two_adicity 
         ∙ sym (map-map element number xs) ∙ ap (map element) e
 
     -- the text of the matrix that answers the job of elements is that of an answer
-    pub text_of_answer : (operation : Operation) (a : Arguments) (m out : RowMajor F) (s : F) (text : List ℕ) → m.width ≡ a.width → map number m.values ≡ a.values
+    pub text_of_answer : (operation : Operation) (a : Arguments) (m out : RowMajor F) (s : F) (text : List ℕ)
+        → m.width ≡ a.width → map number m.values ≡ a.values
         → number s ≡ a.shift → IsRowMajor out → IsAnswer f generator (job_of operation m a.added_bits s) out → text ≡ text_of_rows (map (map number) (rows out))
         → IsText field (asked_job field operation a) text
     text_of_answer operation a m out s text wide are shift whole answer shown = record {

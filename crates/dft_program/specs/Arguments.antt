@@ -1,5 +1,7 @@
 -- The words behind the operation's name: what they ask for, and what can be wrong with them.
-use Rattle.std.specs.Prelude.{ℕ, zero, suc, ◌+◌, ◌*◌, ◌/◌, ◌%◌, ◌^◌, ◌==◌, Bool, false, not, ◌||◌, ◌&&◌, List, [], ◌∷◌, length, map, drop, slice_index, Option, Some, None, is_some, unwrap_or, Result, String, nat_le, nat_lt, if◌then◌else◌}
+use Rattle.std.specs.Prelude.{ℕ, zero, suc, ◌+◌, ◌*◌, ◌/◌, ◌%◌, ◌^◌, ◌==◌, Bool, false, not, ◌||◌, ◌&&◌, List, [], ◌∷◌}
+use Rattle.std.specs.Prelude.{length, map, drop, slice_index, Option, Some, None, is_some, unwrap_or, Result, String}
+use Rattle.std.specs.Prelude.{nat_le, nat_lt, if◌then◌else◌}
 use Rattle.std.specs.Global.{Global}
 use Rattle.std.specs.List.{list_any}
 use Rattle.std.specs.String.{string_bytes}
@@ -49,7 +51,12 @@ arguments_of CosetDft numbers = record { added_bits = 0; shift = slice_index num
 arguments_of Idft numbers = record { added_bits = 0; shift = 0; width = slice_index numbers 0; values = drop 1 numbers }
 arguments_of CosetIdft numbers = record { added_bits = 0; shift = slice_index numbers 0; width = slice_index numbers 1; values = drop 2 numbers }
 arguments_of Lde numbers = record { added_bits = slice_index numbers 0; shift = 0; width = slice_index numbers 1; values = drop 2 numbers }
-arguments_of CosetLde numbers = record { added_bits = slice_index numbers 0; shift = slice_index numbers 1; width = slice_index numbers 2; values = drop 3 numbers }
+arguments_of CosetLde numbers = record {
+  added_bits = slice_index numbers 0;
+  shift = slice_index numbers 1;
+  width = slice_index numbers 2;
+  values = drop 3 numbers;
+}
 
 -- the n of at most bits with 2 ^ n = number
 unfoldable pub logarithm : ℕ → ℕ → Option ℕ

@@ -1,7 +1,9 @@
 -- Why the program has no answer: the lines that tell it, and the first fault of several.
 use Rattle.std.specs.Prelude.{ℕ, Bool, List, [], ◌∷◌, ◌++◌, codes, Option, Some, None, Result, Ok, Err, if◌then◌else◌}
 use Rattle.dft_program.specs.declared.fault.Fault.{Fault}
-use Rattle.dft_program.specs.declared.fault.Fault.TheVariants.{UnknownField, UnknownEngine, UnknownOperation, TooFewWords, NotANumber, NotBelowModulus, UnfitShape, NoInverse}
+use Rattle.dft_program.specs.declared.fault.Fault.TheVariants.{UnknownField, UnknownEngine, UnknownOperation}
+use Rattle.dft_program.specs.declared.fault.Fault.TheVariants.{TooFewWords, NotANumber, NotBelowModulus, UnfitShape}
+use Rattle.dft_program.specs.declared.fault.Fault.TheVariants.{NoInverse}
 
 -- a text, and a line feed
 abbrev pub ended : List ℕ → List ℕ

@@ -1,11 +1,14 @@
 -- Sums over lists, and over the blocks of a matrix: whatever the order of the blocks, the sum of theirs is that of all entries.
-use Rattle.std.proofs.Common.{◌≡◌, ◌≢◌, ℕ, zero, suc, ◌+◌, ◌*◌, ◌/◌, ◌%◌, ◌<◌, ◌≤◌, List, [], ◌∷◌, ◌++◌, length, get_or, map, take, drop, slice_range, Result, Ok, Err, refl, sym, ap, ap₂, ◌∙◌, subst, arith, rules, add-one, ⊎_elim}
+use Rattle.std.proofs.Common.{◌≡◌, ◌≢◌, ℕ, zero, suc, ◌+◌, ◌*◌, ◌/◌, ◌%◌, ◌<◌, ◌≤◌, List, [], ◌∷◌, ◌++◌, length, get_or}
+use Rattle.std.proofs.Common.{map, take, drop, slice_range, Result, Ok, Err, refl, sym, ap, ap₂, ◌∙◌, subst, arith}
+use Rattle.std.proofs.Common.{rules, add-one, ⊎_elim}
 use Rattle.std.specs.Prelude.{⊤, IsPermutation}
 use Rattle.std.specs.List.{All, AllPairs, swap}
 use Rattle.std.proofs.Math.ListN.{set}
 use Rattle.std.proofs.lemmas.Bool.Decides.{eqb_tells}
 use Rattle.std.proofs.Math.Nat.{add-mul, suc-mul}
-use Rattle.std.proofs.lemmas.List.{get_or-map, get_or_append_left, length-map, places, get_or-set_same, get_or-set_other, length-set, take-append-drop, take-take, take_all}
+use Rattle.std.proofs.lemmas.List.{get_or-map, get_or_append_left, length-map, places, get_or-set_same}
+use Rattle.std.proofs.lemmas.List.{get_or-set_other, length-set, take-append-drop, take-take, take_all}
 use Rattle.std.proofs.lemmas.List.FromFn.{map-range_with_len_more}
 use Rattle.std.proofs.lemmas.List.Sorted.{IsPermutation-keeps}
 use Rattle.std.proofs.lemmas.Nat.{div-add-mod', div_below, mod_below}
@@ -66,15 +69,20 @@ module _ {A T : Type 0} (R : Ring A) (f : T → A) where
   total-set : (d : T) (xs : List T) (i : ℕ) (y e : T) → i < length xs → total d (set xs i y) ⊕ f (get_or xs i e) ≡ total d xs ⊕ f y
   total-set d [] i y e l = absurd (omega (arith, l))
   total-set d (x ∷ xs) zero y e l =
-      ap (λ a. a ⊕ f x) (total-cons d y xs) ∙ solve R (f x ∷ f y ∷ total d xs ∷ []) ((vb ⊞ vc) ⊞ va) ((va ⊞ vc) ⊞ vb) refl ∙ ap (λ a. a ⊕ f y) (sym (total-cons d x xs))
+      ap (λ a. a ⊕ f x) (total-cons d y xs)
+      ∙ solve R (f x ∷ f y ∷ total d xs ∷ []) ((vb ⊞ vc) ⊞ va) ((va ⊞ vc) ⊞ vb) refl
+      ∙ ap (λ a. a ⊕ f y) (sym (total-cons d x xs))
   total-set d (x ∷ xs) (suc i) y e l =
       ap (λ a. a ⊕ f (get_or xs i e)) (total-cons d x (set xs i y)) ∙ R.add_assoc (f x) _ _ ∙ ap (λ a. f x ⊕ a) (total-set d xs i y e (omega (arith, l)))
       ∙ sym (R.add_assoc (f x) _ _) ∙ ap (λ a. a ⊕ f y) (sym (total-cons d x xs))
 
-  total_exchanged : (d : T) (xs : List T) (i j : ℕ) (e : T) → i < length xs → j < length xs → total d (set (set xs i (get_or xs j e)) j (get_or xs i e)) ≡ total d xs
+  total_exchanged : (d : T) (xs : List T) (i j : ℕ) (e : T) → i < length xs → j < length xs
+      → total d (set (set xs i (get_or xs j e)) j (get_or xs i e)) ≡ total d xs
   total_exchanged d xs i j e p q =
       let w = set xs i (get_or xs j e) in
-      let there : get_or w j e ≡ get_or xs j e = ⊎_elim (λ s. ap (λ n. get_or w n e) s.1 ∙ get_or-set_same xs i (get_or xs j e) e p) (λ n. get_or-set_other xs i j (get_or xs j e) e n.1) (eqb_tells j i) in
+      let there : get_or w j e ≡ get_or xs j e =
+      ⊎_elim (λ s. ap (λ n. get_or w n e) s.1 ∙ get_or-set_same xs i (get_or xs j e) e p)
+      (λ n. get_or-set_other xs i j (get_or xs j e) e n.1) (eqb_tells j i) in
       let first = total-set d xs i (get_or xs j e) e p in
       let second = total-set d w j (get_or xs i e) e (omega (arith, q, length-set xs i (get_or xs j e))) in
       Rings.add_cancel R (f (get_or xs j e)) _ _
@@ -101,7 +109,9 @@ module _ {A T : Type 0} (R : Ring A) (f : T → A) (d : T) where
 
   -- what stands before a part of a list, and the part
   part_after : (xs : List T) (a b : ℕ) → a ≤ b → take a xs ++ slice_range xs a b ≡ take b xs
-  part_after xs a b l = ap (λ ys. take a xs ++ ys) (between_is xs a b) ∙ ap (λ ys. ys ++ drop a (take b xs)) (sym (take-take a b xs l)) ∙ take-append-drop a (take b xs)
+  part_after xs a b l =
+      ap (λ ys. take a xs ++ ys) (between_is xs a b) ∙ ap (λ ys. ys ++ drop a (take b xs)) (sym (take-take a b xs l))
+      ∙ take-append-drop a (take b xs)
 
   -- the first n blocks have the sum of the entries of their rows
   first_total : (b : ℕ) (m : RowMajor T) (n : ℕ) → total R block_total none (first_blocks b m n) ≡ total R f d (take ((n * b) * m.width) m.values)
@@ -112,14 +122,16 @@ module _ {A T : Type 0} (R : Ring A) (f : T → A) (d : T) where
       let w = m.width in
       let from = (n * b) * w in
       let to : from + b * w ≡ (suc n * b) * w = omega (arith, suc-mul n b, add-mul (n * b) b w) in
-      ap (λ k. total R block_total none (first_blocks b m k)) (sym (add-one n)) ∙ ap (total R block_total none) (map-range_with_len_more (block b m) 0 n n (omega arith))
+      ap (λ k. total R block_total none (first_blocks b m k)) (sym (add-one n))
+      ∙ ap (total R block_total none) (map-range_with_len_more (block b m) 0 n n (omega arith))
       ∙ total_push R block_total none (first_blocks b m n) (block b m n)
       ∙ ap (λ a. a ⊕ total R f d (slice_range m.values from (from + b * w))) (first_total b m n)
       ∙ sym (total-append R f d (take from m.values) (slice_range m.values from (from + b * w)))
       ∙ ap (total R f d) (part_after m.values from (from + b * w) (omega arith)) ∙ ap (λ k. total R f d (take k m.values)) to
 
   -- a consumer that adds the sum of each block to its own has the sum of a list of blocks
-  run_total : {C X : Type 0} (step : C → ℕ → RowMajor T → Result ⊤ X → C → Type 0) (g : C → A) → ((c : C) (start : ℕ) (m : RowMajor T) (e : C) → step c start m (Ok tt) e → g e ≡ g c ⊕ total R f d m.values)
+  run_total : {C X : Type 0} (step : C → ℕ → RowMajor T → Result ⊤ X → C → Type 0) (g : C → A)
+      → ((c : C) (start : ℕ) (m : RowMajor T) (e : C) → step c start m (Ok tt) e → g e ≡ g c ⊕ total R f d m.values)
       → (blocks : List (ℕ × RowMajor T)) (c e : C) → Run step c blocks e → g e ≡ g c ⊕ total R block_total none blocks
   run_total step g adds [] c e run = ap g (sym run) ∙ sym (ap (λ a. g c ⊕ a) (total-nil R block_total none) ∙ R.add_zero (g c))
   run_total step g adds (p ∷ ps) c e (j, told, run) =
@@ -127,7 +139,9 @@ module _ {A T : Type 0} (R : Ring A) (f : T → A) (d : T) where
       ∙ ap (λ a. g c ⊕ a) (sym (total-cons R block_total none p ps))
 
   -- one that began with zero has the sum of all entries of a matrix that was published
-  pub published_total : {C X : Type 0} (step : C → ℕ → RowMajor T → Result ⊤ X → C → Type 0) (may_make : C → Type 0) (g : C → A) (b : ℕ) (m : RowMajor T) (last : C) → IsRowMajor m
+  pub published_total : {C X : Type 0} (step : C → ℕ → RowMajor T → Result ⊤ X → C → Type 0) (may_make : C → Type 0)
+      (g : C → A) (b : ℕ) (m : RowMajor T) (last : C)
+      → IsRowMajor m
       → ((c : C) (start : ℕ) (r : RowMajor T) (e : C) → step c start r (Ok tt) e → g e ≡ g c ⊕ total R f d r.values) → ((c : C) → may_make c → g c ≡ 𝟘)
       → IsPublished step may_make b m last → g last ≡ total R f d m.values
   published_total step may_make g b m last whole adds new x =
@@ -135,7 +149,8 @@ module _ {A T : Type 0} (R : Ring A) (f : T → A) (d : T) where
       let all : n * b ≡ height m = omega (arith, div-add-mod' (height m) b, x.parts.divides) in
       let size : (n * b) * m.width ≡ length m.values = ap (λ h. h * m.width) all ∙ whole.full in
       run_total step g adds x.blocks x.first last x.run ∙ ap (λ a. a ⊕ total R block_total none x.blocks) (new x.first x.made) ∙ Rings.zero-add R _
-      ∙ total_permuted R block_total none (first_blocks b m n) x.blocks x.parts.each_once ∙ first_total b m n ∙ ap (total R f d) (take_all _ m.values (omega (arith, size)))
+      ∙ total_permuted R block_total none (first_blocks b m n) x.blocks x.parts.each_once ∙ first_total b m n ∙ ap
+      (total R f d) (take_all _ m.values (omega (arith, size)))
 
 module _ {T C X : Type 0} (step : C → ℕ → RowMajor T → Result ⊤ X → C → Type 0) (left : C → ℕ)
     (takes : (c : C) (start : ℕ) (m : RowMajor T) (e : C) → step c start m (Ok tt) e → left c ≡ left e + 1) where
@@ -183,7 +198,8 @@ module _ {A T : Type 0} (R : Ring A) (f : T → A) (d : T) (b : ℕ) (out : Matr
       rest ∙ ap (λ a. a ⊕ sum_of_blocks R b out (map (λ q. q.0) ps)) (adds c p.0 p.1 j told ∙ ap (λ a. g c ⊕ a) (block_entries p here)) ∙ R.add_assoc (g c) _ _
 
   -- one that began with zero, and refused a block when it had none left
-  pub sum_at_refusal : {C X : Type 0} (step : C → ℕ → RowMajor T → Result ⊤ X → C → Type 0) (may_make : C → Type 0) (g : C → A) (left : C → ℕ) (limit : ℕ) (last : C) (refusal : X)
+  pub sum_at_refusal : {C X : Type 0} (step : C → ℕ → RowMajor T → Result ⊤ X → C → Type 0) (may_make : C → Type 0)
+      (g : C → A) (left : C → ℕ) (limit : ℕ) (last : C) (refusal : X)
       → ((c : C) (start : ℕ) (m : RowMajor T) (e : C) → step c start m (Ok tt) e → (left c ≡ left e + 1) × (g e ≡ g c ⊕ total R f d m.values))
       → ((c : C) (start : ℕ) (m : RowMajor T) (e : C) → step c start m (Err refusal) e → (left c ≡ 0) × (e ≡ c))
       → ((c : C) → may_make c → (g c ≡ 𝟘) × (left c ≡ limit))
@@ -198,9 +214,11 @@ module _ {A T : Type 0} (R : Ring A) (f : T → A) (d : T) (b : ℕ) (out : Matr
       let number = λ (p : ℕ × RowMajor T). p.0 in
       let none = x.refused in
       let joined : length (blocks ++ none ∷ []) ≡ length blocks + 1 = search (rules, places) in
-      let at : (i : ℕ) → i < length blocks → get_or (blocks ++ none ∷ []) i none ≡ get_or blocks i none = λ i l. get_or_append_left blocks (none ∷ []) none i l in
+      let at : (i : ℕ) → i < length blocks → get_or (blocks ++ none ∷ []) i none ≡ get_or blocks i none =
+      λ i l. get_or_append_left blocks (none ∷ []) none i l in
       let each : All (IsBlockOf (λ m. image f (matrix d m)) b out) blocks = λ i e inside.
-      subst (IsBlockOf (λ m. image f (matrix d m)) b out) (get_or_append_left blocks (none ∷ []) e i inside) (x.blocks.each i e (omega (arith, inside, joined))) in
+      subst (IsBlockOf (λ m. image f (matrix d m)) b out) (get_or_append_left blocks (none ∷ []) e i inside)
+      (x.blocks.each i e (omega (arith, inside, joined))) in
       let many = run_left step left (λ c start m e told. (adds c start m e told).0) blocks x.first middle x.run.run in
       let sums = run_entries step g (λ c start m e told. (adds c start m e told).1) blocks x.first middle each x.run.run in
       let start_is : (i e : ℕ) → i < length (map number blocks) → get_or (map number blocks) i e ≡ (get_or blocks i none).0 = λ i e inside.
@@ -210,7 +228,8 @@ module _ {A T : Type 0} (R : Ring A) (f : T → A) (d : T) (b : ℕ) (out : Matr
         (λ i j e before inside same.
             let in_blocks : j < length blocks = omega (arith, inside, length-map blocks number) in
             x.blocks.distinct i j none before (omega (arith, in_blocks, joined))
-            (ap number (at i (omega (arith, before, in_blocks))) ∙ sym (start_is i e (omega (arith, before, inside))) ∙ same ∙ start_is j e inside ∙ sym (ap number (at j in_blocks)))),
+            (ap number (at i (omega (arith, before, in_blocks))) ∙ sym (start_is i e (omega (arith, before, inside)))
+            ∙ same ∙ start_is j e inside ∙ sym (ap number (at j in_blocks)))),
         (λ i e inside.
             let here = each i none (omega (arith, inside, length-map blocks number)) in
             rw (start_is i e inside) (here.multiple, here.within)),

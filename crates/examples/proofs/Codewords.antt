@@ -1,5 +1,6 @@
 -- The codewords of a low degree test, each folded to the next, and what is opened of them.
-use Rattle.std.proofs.Common.{◌≡◌, ℕ, zero, suc, ◌+◌, ◌-◌, ◌*◌, ◌/◌, ◌%◌, ◌^◌, ◌<◌, ◌≤◌, ◌⊎◌, inl, inr, List, [], ◌∷◌, ◌++◌, get_or, length, map, refl, ap, subst, sym, ◌∙◌, arith}
+use Rattle.std.proofs.Common.{◌≡◌, ℕ, zero, suc, ◌+◌, ◌-◌, ◌*◌, ◌/◌, ◌%◌, ◌^◌, ◌<◌, ◌≤◌, ◌⊎◌, inl, inr, List, [], ◌∷◌}
+use Rattle.std.proofs.Common.{◌++◌, get_or, length, map, refl, ap, subst, sym, ◌∙◌, arith}
 use Rattle.std.proofs.lemmas.Bool.{cases_lt}
 use Rattle.std.proofs.lemmas.List.{get_or_past, get_or_push, length-map}
 use Rattle.std.proofs.Math.ListN.{get_or-append}
@@ -46,10 +47,15 @@ module _ {F D V : Type 0} (f : FieldMembers F) (g : ℕ → f.Element) (worth : 
       layer : (beta : F) (here there : RowMajor F) (tree : List D) → Type 0
       layer beta here there tree = IsLayer f g worth join of_row (log - suc l) (power f.ring s (2 ^ l)) (f.value beta) here there tree
 
-      same : (beta gamma : F) (here at there to : RowMajor F) (tree wood : List D) → beta ≡ gamma → here ≡ at → there ≡ to → tree ≡ wood → layer gamma at to wood → layer beta here there tree
-      same beta gamma here at there to tree wood a b c d is = subst (λ x. layer x here there tree) (sym a) (subst (λ x. layer gamma x there tree) (sym b) (subst (λ x. layer gamma at x tree) (sym c) (subst (layer gamma at to) (sym d) is)))
+      same : (beta gamma : F) (here at there to : RowMajor F) (tree wood : List D) → beta ≡ gamma → here ≡ at
+          → there ≡ to → tree ≡ wood → layer gamma at to wood → layer beta here there tree
+      same beta gamma here at there to tree wood a b c d is =
+          subst (λ x. layer x here there tree) (sym a) (subst (λ x. layer gamma x there tree) (sym b)
+          (subst (λ x. layer gamma at x tree) (sym c) (subst (layer gamma at to) (sym d) is)))
 
-      cases : (l < n) ⊎ (n ≤ l) → layer (get_or (bs ++ b ∷ []) l f.zero) (get_or (cs ++ c ∷ []) l next) (get_or (cs ++ c ∷ []) (suc l) next) (get_or (ns ++ nodes ∷ []) l [])
+      cases : (l < n) ⊎ (n ≤ l)
+          → layer (get_or (bs ++ b ∷ []) l f.zero) (get_or (cs ++ c ∷ []) l next) (get_or (cs ++ c ∷ []) (suc l) next)
+          (get_or (ns ++ nodes ∷ []) l [])
       cases (inl less) =
           same _ _ _ _ _ _ _ _ (get_or-append bs (b ∷ []) f.zero l (omega (arith, less, bl))) (get_or_pushed cs c next l (omega (arith, less, cl)))
           (get_or_pushed cs c next (suc l) (omega (arith, less, cl))) (get_or-append ns (nodes ∷ []) [] l (omega (arith, less, nl))) (before l less)
@@ -60,7 +66,8 @@ module _ {F D V : Type 0} (f : FieldMembers F) (g : ℕ → f.Element) (worth : 
           (ap (λ q. get_or (cs ++ c ∷ []) (suc q) next) (sym behind) ∙ get_or_behind cs c next) (get_or_push ns nodes [] l (nl ∙ here))
           (subst (λ q. IsLayer f g worth join of_row (log - suc q) (power f.ring s (2 ^ q)) (f.value b) c next nodes) here new)
 
-  module _ (n : ℕ) (betas : ℕ → f.Element) (codewords : ℕ → RowMajor F) (nodes : ℕ → List D) (layers : AreLayers f g worth join of_row log n s betas codewords nodes) where
+  module _ (n : ℕ) (betas : ℕ → f.Element) (codewords : ℕ → RowMajor F) (nodes : ℕ → List D)
+      (layers : AreLayers f g worth join of_row log n s betas codewords nodes) where
     -- all of one width
     pub width_of_layer : (m l : ℕ) → l + m ≡ n → (codewords l).width ≡ (codewords n).width
     width_of_layer zero l all = let here : l ≡ n = omega (arith, all) in ap (λ q. (codewords q).width) here
@@ -69,8 +76,11 @@ module _ {F D V : Type 0} (f : FieldMembers F) (g : ℕ → f.Element) (worth : 
     -- the pairs that are opened fold down to the last one
     pub pairs_fold : (i : ℕ) (pairs : ℕ → RowMajor F)
         → ((l : ℕ) → l < n → (pairs l).width ≡ (codewords l).width)
-        → ((l r j : ℕ) → l < n → r < 2 → j < (codewords l).width → (values_of f (pairs l)).entry r j ≡ (values_of f (codewords l)).entry (2 * (i / 2 ^ l) + r) j)
-        → ((l : ℕ) → l < n → FoldsTo f g (log - suc l) (power f.ring s (2 ^ l)) (betas l) (i / 2 ^ l) (values_of f (pairs l)) ((values_of f (codewords (suc l))).entry (i / 2 ^ l)))
+        → ((l r j : ℕ) → l < n → r < 2 → j < (codewords l).width
+        → (values_of f (pairs l)).entry r j ≡ (values_of f (codewords l)).entry (2 * (i / 2 ^ l) + r) j)
+        → ((l : ℕ) → l < n
+        → FoldsTo f g (log - suc l) (power f.ring s (2 ^ l)) (betas l) (i / 2 ^ l) (values_of f (pairs l))
+        ((values_of f (codewords (suc l))).entry (i / 2 ^ l)))
         → FoldsDown f g log n s betas i (λ l. values_of f (pairs l)) (values_of f (codewords n))
     pairs_fold i pairs wide entries folds = record {
       between = λ l below j in_row.
@@ -82,6 +92,12 @@ module _ {F D V : Type 0} (f : FieldMembers F) (g : ℕ → f.Element) (worth : 
           let last : l < n = omega (arith, below) in
           let in_next : j < (codewords (suc l)).width = omega (arith, in_row, wide l last, (layers l last).folds.width) in
           let is = entries (suc l) (m % 2) j below (omega arith) in_next ∙ ap (λ q. (values_of f (codewords (suc l))).entry q j) place in
-          subst (IsFoldedPair f.ring (betas l) (point f.ring g (suc (log - suc l)) (power f.ring s (2 ^ l)) (rev (log - suc l) m)) ((values_of f (pairs l)).entry 0 j) ((values_of f (pairs l)).entry 1 j)) (sym is) (folds l last j in_row);
-      to_last = λ l last. subst (λ q. FoldsTo f g (log - suc l) (power f.ring s (2 ^ l)) (betas l) (i / 2 ^ l) (values_of f (pairs l)) ((values_of f (codewords q)).entry (i / 2 ^ l))) last (folds l (omega (arith, last)));
+          subst (IsFoldedPair f.ring (betas l)
+          (point f.ring g (suc (log - suc l)) (power f.ring s (2 ^ l)) (rev (log - suc l) m))
+          ((values_of f (pairs l)).entry 0 j) ((values_of f (pairs l)).entry 1 j)) (sym is)
+          (folds l last j in_row);
+      to_last =
+          λ l last. subst (λ q. FoldsTo f g (log - suc l) (power f.ring s (2 ^ l)) (betas l) (i / 2 ^ l)
+          (values_of f (pairs l)) ((values_of f (codewords q)).entry (i / 2 ^ l))) last
+          (folds l (omega (arith, last)));
     }

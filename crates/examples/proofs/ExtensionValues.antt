@@ -27,12 +27,14 @@ pub height-embedded : {F E : Type 0} (embedded : F → E) (m : RowMajor F) → h
 height-embedded embedded m = ap (λ n. n / m.width) (length-map m.values embedded)
 
 -- a polynomial of polynomials, by either variable first
-poly_swapped : {A : Type 0} (r : Ring A) (m n : ℕ) (c : ℕ → ℕ → A) (x y : A) → poly r m (λ t. poly r n (λ q. c q t) y) x ≡ poly r n (λ q. poly r m (λ t. c q t) x) y
+poly_swapped : {A : Type 0} (r : Ring A) (m n : ℕ) (c : ℕ → ℕ → A) (x y : A)
+    → poly r m (λ t. poly r n (λ q. c q t) y) x ≡ poly r n (λ q. poly r m (λ t. c q t) x) y
 unfolding poly
 poly_swapped r m zero c x y = poly_zeros r m (λ t. r.zero) x (λ t below. refl)
 poly_swapped r m (suc n) c x y =
     poly-add r m (λ t. c 0 t) (λ t. r.mul y (poly r n (λ q. c (suc q) t) y)) x
-    ∙ ap (r.add (poly r m (λ t. c 0 t) x)) (poly-times r m y (λ t. poly r n (λ q. c (suc q) t) y) x ∙ ap (r.mul y) (poly_swapped r m n (λ q t. c (suc q) t) x y))
+    ∙ ap (r.add (poly r m (λ t. c 0 t) x)) (poly-times r m y (λ t. poly r n (λ q. c (suc q) t) y) x
+    ∙ ap (r.mul y) (poly_swapped r m n (λ q t. c (suc q) t) x y))
 
 module _ {A B : Type 0} (r : Ring A) (q : Ring B) (embed : A → B) (is : IsEmbedding r q embed) where
   embedded-poly : (n : ℕ) (c : ℕ → A) (x : A) → embed (poly r n c x) ≡ poly q n (λ j. embed (c j)) (embed x)
@@ -68,7 +70,9 @@ module _ {F E : Type 0} (f : FieldMembers F) (e : FieldMembers E) (v : SpaceMemb
   stored (a ∷ xs) zero = is.base a
   stored (a ∷ xs) (suc n) = stored xs n
 
-  arranged : (layout : Layout) (k : ℕ) (m : RowMajor F) → Same (image is.embed (arrangement layout k (values_of f m))) (arrangement layout k (values_of e (embedded_matrix embedded m)))
+  arranged : (layout : Layout) (k : ℕ) (m : RowMajor F)
+      → Same (image is.embed (arrangement layout k (values_of f m)))
+      (arrangement layout k (values_of e (embedded_matrix embedded m)))
   arranged Natural k m = record { height = sym (height-embedded embedded m); width = refl; alike = λ i j _ _. sym (stored m.values _) }
   arranged BitReversed k m = record { height = sym (height-embedded embedded m); width = refl; alike = λ i j _ _. sym (stored m.values _) }
 
@@ -78,9 +82,13 @@ module _ {F E : Type 0} (f : FieldMembers F) (e : FieldMembers E) (v : SpaceMemb
   embedded_degree layout d k s m has = record {
     coefficients = image is.embed has.coefficients;
     height = has.height;
-    values = subst (λ p. IsValues e.ring (λ n. e.value (h n)) (image is.embed has.coefficients) k p (arrangement layout k (values_of e (embedded_matrix embedded m)))) (sym (is.base s))
-        (values_same e.ring (λ n. e.value (h n)) (image is.embed has.coefficients) k (is.embed (f.value s)) (image is.embed (arrangement layout k (values_of f m))) _
-        (embedded_values f.ring e.ring is.embed is.embeds (λ n. f.value (g n)) (λ n. e.value (h n)) is.generators has.coefficients _ k (f.value s) has.values) (arranged layout k m));
+    values =
+        subst (λ p. IsValues e.ring (λ n. e.value (h n)) (image is.embed has.coefficients) k p
+        (arrangement layout k (values_of e (embedded_matrix embedded m)))) (sym (is.base s))
+        (values_same e.ring (λ n. e.value (h n)) (image is.embed has.coefficients) k (is.embed (f.value s))
+        (image is.embed (arrangement layout k (values_of f m))) _
+        (embedded_values f.ring e.ring is.embed is.embeds (λ n. f.value (g n)) (λ n. e.value (h n)) is.generators
+        has.coefficients _ k (f.value s) has.values) (arranged layout k m));
   }
 
   -- ---- coordinates
@@ -88,7 +96,10 @@ module _ {F E : Type 0} (f : FieldMembers F) (e : FieldMembers E) (v : SpaceMemb
   abbrev part : ℕ → RowMajor E → Matrix f.Element
   part t m = values_of f (coordinate v f.zero t m)
 
-  by_coordinates : (ys : List E) (n : ℕ) → e.value (get_or ys n e.zero) ≡ poly e.ring v.DIMENSION (λ t. is.embed (f.value (get_or (map (λ y. get_or (v.coordinates y) t f.zero) ys) n f.zero))) (e.value x)
+  by_coordinates : (ys : List E) (n : ℕ)
+      → e.value (get_or ys n e.zero)
+      ≡ poly e.ring v.DIMENSION
+      (λ t. is.embed (f.value (get_or (map (λ y. get_or (v.coordinates y) t f.zero) ys) n f.zero))) (e.value x)
   by_coordinates [] n = nothing ∙ sym (poly_zeros e.ring v.DIMENSION _ (e.value x) (λ t below. ap is.embed none ∙ is.embeds.zero))
   by_coordinates (y ∷ ys) zero = is.polynomial y
   by_coordinates (y ∷ ys) (suc n) = by_coordinates ys n
@@ -108,10 +119,12 @@ module _ {F E : Type 0} (f : FieldMembers F) (e : FieldMembers E) (v : SpaceMemb
       ∙ embedded-poly f.ring e.ring is.embed is.embeds (height c) (λ u. (part t c).entry u j) p)
       ∙ poly_swapped e.ring v.DIMENSION (height c) (λ u t. is.embed ((part t c).entry u j)) (e.value x) (is.embed p)
       ∙ poly_same e.ring (height c) _ _ (is.embed p) (λ u _. sym (by_coordinates c.values (u * c.width + j)))
-      ∙ ap (poly e.ring (height c) (λ u. (values_of e c).entry u j)) (embedded-point f.ring e.ring is.embed is.embeds (λ n. f.value (g n)) (λ n. e.value (h n)) is.generators k s i))
+      ∙ ap (poly e.ring (height c) (λ u. (values_of e c).entry u j))
+      (embedded-point f.ring e.ring is.embed is.embeds (λ n. f.value (g n)) (λ n. e.value (h n)) is.generators k s i))
 
   -- what interpolates all coordinates interpolates the elements
-  pub interpolated_by_parts : (counted : (y : E) → length (v.coordinates y) ≡ v.DIMENSION) (bits over : ℕ) → AreRoots f.ring bits (λ n. f.value (g n)) → AreRoots e.ring over (λ n. e.value (h n)) → bits ≡ over
+  pub interpolated_by_parts : (counted : (y : E) → length (v.coordinates y) ≡ v.DIMENSION) (bits over : ℕ)
+      → AreRoots f.ring bits (λ n. f.value (g n)) → AreRoots e.ring over (λ n. e.value (h n)) → bits ≡ over
       → (m out : RowMajor E) (s : F) → FitsDft bits (height m) (m.width * v.DIMENSION) → IsInvertible f.ring (f.value s)
       → IsInterpolation f g (flat v m) (f.value s) (flat v out) → IsInterpolation e h m (e.value (embedded s)) out
   interpolated_by_parts counted bits over roots above same m out s fits invertible given = subst (λ p. IsInterpolation e h m p out) (sym (is.base s)) (record {

@@ -1,6 +1,7 @@
 -- Folding: the values of folded polynomials from pairs of rows, in natural order and from rows in bit reversed order, and back from
 -- two foldings with challenges whose difference has an inverse.
-use Rattle.std.proofs.Common.{◌≡◌, ℕ, zero, suc, ◌+◌, ◌-◌, ◌*◌, ◌/◌, ◌%◌, ◌^◌, ◌<◌, ◌≤◌, ◌⊎◌, inl, inr, cond, eqb, List, [], ◌∷◌, ◌++◌, length, get_or, take, drop, rules, refl, sym, ap, ap₂, ◌∙◌, subst, arith}
+use Rattle.std.proofs.Common.{◌≡◌, ℕ, zero, suc, ◌+◌, ◌-◌, ◌*◌, ◌/◌, ◌%◌, ◌^◌, ◌<◌, ◌≤◌, ◌⊎◌, inl, inr, cond, eqb, List}
+use Rattle.std.proofs.Common.{[], ◌∷◌, ◌++◌, length, get_or, take, drop, rules, refl, sym, ap, ap₂, ◌∙◌, subst, arith}
 use Rattle.std.proofs.Math.Nat.{two-pow-succ}
 use Rattle.std.proofs.lemmas.Bool.{cases_lt}
 use Rattle.std.proofs.lemmas.List.{places}
@@ -43,7 +44,8 @@ half_of log k h is high = let same : log ≡ suc k = log_same log (suc k) (sym i
 pub row_size : {T : Type 0} (m : RowMajor T) (i : ℕ) → IsRowMajor m → i < height m → length (row m i) ≡ m.width
 row_size m i whole below = let inside = row_within i (height m) m.width (length m.values) below whole.full in search (rules, places)
 
-pub row_entry : {T : Type 0} (m : RowMajor T) (i j : ℕ) (d : T) → IsRowMajor m → i < height m → j < m.width → get_or (row m i) j d ≡ get_or m.values (i * m.width + j) d
+pub row_entry : {T : Type 0} (m : RowMajor T) (i j : ℕ) (d : T) → IsRowMajor m → i < height m → j < m.width
+    → get_or (row m i) j d ≡ get_or m.values (i * m.width + j) d
 row_entry m i j d whole below inside = let within = row_within i (height m) m.width (length m.values) below whole.full in search (rules, places)
 
 -- entry j of a row, as a value
@@ -52,7 +54,8 @@ pub row_value : {F : Type 0} (f : FieldMembers F) (m : RowMajor F) (i j : ℕ) (
 row_value f m i j xs whole is below inside = ap f.value (ap (λ ys. get_or ys j f.zero) is ∙ row_entry m i j f.zero whole below inside)
 
 -- one more row of w entries at the end of a list
-pub one_more_row : {T : Type 0} (P : ℕ → ℕ → T → Type 0) (old new : List T) (d : T) (n w : ℕ) → length old ≡ n * w → ((i j : ℕ) → i < n → j < w → P i j (get_or old (i * w + j) d))
+pub one_more_row : {T : Type 0} (P : ℕ → ℕ → T → Type 0) (old new : List T) (d : T) (n w : ℕ) → length old ≡ n * w
+    → ((i j : ℕ) → i < n → j < w → P i j (get_or old (i * w + j) d))
     → ((q : ℕ) → q < length old → get_or new q d ≡ get_or old q d) → ((j : ℕ) → j < w → P n j (get_or new (length old + j) d))
     → (i j : ℕ) → i < n + 1 → j < w → P i j (get_or new (i * w + j) d)
 one_more_row P old new d n w long before kept last i j below inside = cases (cases_lt i n)
@@ -65,7 +68,8 @@ one_more_row P old new d n w long before kept last i j below inside = cases (cas
         subst (λ q. P q j (get_or new (i * w + j) d)) is (subst (λ q. P n j (get_or new q d)) place (last j inside))
 
 -- what is written over a whole list is there
-pub written_over : {T : Type 0} (n i : ℕ) (xs ys : List T) (d : T) → length xs ≡ n → length ys ≡ n → i < n → get_or (take n (ys ++ drop (length ys) xs)) i d ≡ get_or ys i d
+pub written_over : {T : Type 0} (n i : ℕ) (xs ys : List T) (d : T) → length xs ≡ n → length ys ≡ n → i < n
+    → get_or (take n (ys ++ drop (length ys) xs)) i d ≡ get_or ys i d
 written_over n i xs ys d long size below = search (rules, places)
 
 module _ {A : Type 0} (R : Ring A) where
@@ -89,7 +93,8 @@ module _ {A : Type 0} (R : Ring A) where
       invertible_cancel R x v w inverse (invertible_cancel R (two R) (x ⊗ v) (x ⊗ w) (two_invertible R (two R) refl) (first ∙ sym second))
 
   -- and two folded values have one pair
-  pub one_pair : (beta gamma x a b c d v w : A) → IsInvertible R x → IsInvertible R (minus R beta gamma) → IsFoldedPair R beta x a b v → IsFoldedPair R gamma x a b w
+  pub one_pair : (beta gamma x a b c d v w : A) → IsInvertible R x → IsInvertible R (minus R beta gamma)
+      → IsFoldedPair R beta x a b v → IsFoldedPair R gamma x a b w
       → IsFoldedPair R beta x c d v → IsFoldedPair R gamma x c d w → (a ≡ c) × (b ≡ d)
   one_pair beta gamma x a b c d v w inverse apart first second third fourth = (
     invertible_cancel R (two R) a c (two_invertible R (two R) refl) (first_of a b ∙ ap₂ ◌⊕◌ sums differences ∙ sym (first_of c d)),
@@ -177,7 +182,8 @@ module _ {A : Type 0} (R : Ring A) {g : ℕ → A} {bits : ℕ} (G : AreRoots R 
       ∙ folded_poly R n f beta x ∙ ap₂ (λ a b. x ⊗ (a ⊕ b) ⊕ beta ⊗ minus R a b) (sym near) (sym far)
 
   -- rows that are folded pair by pair have the values of the folded polynomials
-  pub folded_values : (beta : A) (k : ℕ) (s : A) (m out : Matrix A) → k < bits → IsInvertible R s → AreFoldedRows R g beta k s m out → IsFolding R g beta k s m out
+  pub folded_values : (beta : A) (k : ℕ) (s : A) (m out : Matrix A) → k < bits → IsInvertible R s
+      → AreFoldedRows R g beta k s m out → IsFolding R g beta k s m out
   folded_values beta k s m out within inverse folded c v =
       is_values R g (folded_coefficients R beta c) k (s ⊗ s) out folded.half (folded.width ∙ v.width)
       (λ i j below inside.
@@ -197,12 +203,14 @@ module _ {A : Type 0} (R : Ring A) {g : ℕ → A} {bits : ℕ} (G : AreRoots R 
     half = high;
     width = wide;
     rows = λ i j below inside.
-        pair_same R beta (ap (point R g (suc k) s) (rev-rev k i below)) (ap (λ n. m.entry n j) (sym (rev-low k i below))) (ap (λ n. m.entry n j) (sym (rev-high k i below)))
+        pair_same R beta (ap (point R g (suc k) s) (rev-rev k i below))
+        (ap (λ n. m.entry n j) (sym (rev-low k i below))) (ap (λ n. m.entry n j) (sym (rev-high k i below)))
         refl (rows (rev k i) j (rev-lt k i) inside);
   }
 
   -- from a factor for each pair: the challenge over twice its point
-  pub rows_by_factors : (layout : Layout) (beta : A) (k log half : ℕ) (s : A) (m out : Matrix A) (factor read : ℕ → A) → log ≡ k → half ≡ 2 ^ k → m.height ≡ 2 ^ suc k → out.height ≡ half → out.width ≡ m.width
+  pub rows_by_factors : (layout : Layout) (beta : A) (k log half : ℕ) (s : A) (m out : Matrix A) (factor read : ℕ → A)
+      → log ≡ k → half ≡ 2 ^ k → m.height ≡ 2 ^ suc k → out.height ≡ half → out.width ≡ m.width
       → ((i : ℕ) → i < 2 ^ log → two R ⊗ (point R g (suc log) s (pair_point layout log i) ⊗ factor i) ≡ beta)
       → ((i : ℕ) → read i ≡ factor i)
       → ((x : ℕ → A) → ((i : ℕ) → i < half → two R ⊗ (x i ⊗ read i) ≡ beta) → (i j : ℕ) → i < half → j < m.width
@@ -213,7 +221,8 @@ module _ {A : Type 0} (R : Ring A) {g : ℕ → A} {bits : ℕ} (G : AreRoots R 
       subst (λ n. (i : ℕ) → i < 2 ^ n → two R ⊗ (point R g (suc n) s (pair_point layout n i) ⊗ factor i) ≡ beta) same factors in
       folded_in_layout layout beta k s m out tall (high ∙ power) wide
       (λ i j below inside.
-      rows (λ q. point R g (suc k) s (pair_point layout k q)) (λ q l. ap (λ y. two R ⊗ (point R g (suc k) s (pair_point layout k q) ⊗ y)) (reads q) ∙ here q (omega (arith, l, power)))
+      rows (λ q. point R g (suc k) s (pair_point layout k q)) (λ q l. ap (λ y. two R ⊗ (point R g (suc k) s (pair_point layout k q) ⊗ y)) (reads q)
+      ∙ here q (omega (arith, l, power)))
       i j (omega (arith, below, power)) inside)
 
   -- ---- back
@@ -246,7 +255,8 @@ module _ {A : Type 0} (R : Ring A) {g : ℕ → A} {bits : ℕ} (G : AreRoots R 
         both : (i j : ℕ) → i < 2 ^ k → j < m.width → (m.entry i j ≡ n.entry i j) × (m.entry (2 ^ k + i) j ≡ n.entry (2 ^ k + i) j)
         both i j below inside =
             let other : j < n.width = omega (arith, inside, first.width, third.width) in
-            one_pair R beta gamma (at i) (m.entry i j) (m.entry (2 ^ k + i) j) (n.entry i j) (n.entry (2 ^ k + i) j) (y.entry i j) (z.entry i j) (at_invertible i) apart
+            one_pair R beta gamma (at i) (m.entry i j) (m.entry (2 ^ k + i) j) (n.entry i j) (n.entry (2 ^ k + i) j)
+            (y.entry i j) (z.entry i j) (at_invertible i) apart
             (first.rows i j below inside) (second.rows i j below inside) (third.rows i j below other) (fourth.rows i j below other)
 
     -- the coefficients whose foldings are c with beta and d with gamma
@@ -305,7 +315,8 @@ module _ {A : Type 0} (R : Ring A) {g : ℕ → A} {bits : ℕ} (G : AreRoots R 
             ∙ solve R (f q ∷ beta ∷ t ∷ minus R (f q) (e q) ∷ gamma ∷ []) ((va ⊟ vb ⊠ (vc ⊠ vd)) ⊞ ve ⊠ (vc ⊠ vd)) (va ⊟ ((vb ⊟ ve) ⊠ vc) ⊠ vd) refl
             ∙ ap (λ r. minus R (f q) (r ⊗ minus R (f q) (e q))) apart.1
             ∙ solve R (f q ∷ e q ∷ []) (va ⊟ oneₑ ⊠ (va ⊟ vb)) vb refl) ∙ sym w in
-            let pair = one_pair R beta gamma x (m.entry i j) (m.entry (2 ^ k + i) j) (poly R (2 * h) (u j) x) (poly R (2 * h) (u j) (neg x)) (y.entry i j) (z.entry i j) (at_invertible i) apart
+            let pair = one_pair R beta gamma x (m.entry i j) (m.entry (2 ^ k + i) j) (poly R (2 * h) (u j) x)
+            (poly R (2 * h) (u j) (neg x)) (y.entry i j) (z.entry i j) (at_invertible i) apart
             (first.rows i j below in_m) (second.rows i j below in_m)
             (ap (λ r. two R ⊗ (x ⊗ r)) (sym with_beta) ∙ folded_poly R h (u j) beta x)
             (ap (λ r. two R ⊗ (x ⊗ r)) (sym with_gamma) ∙ folded_poly R h (u j) gamma x) in

@@ -31,15 +31,24 @@ module _ {T : Type 0} where
       (cases_lt c.seen c.limit)
 
   -- a new limit that refused a block had taken as many as it may, and names that block
-  pub one_too_many : {A : Type 0} (may_make : Limited → Type 0) (values : RowMajor T → Matrix A) (b : ℕ) (out : Matrix A) (last : Limited) (refusal : BlockRefused) (limit : ℕ)
+  pub one_too_many : {A : Type 0} (may_make : Limited → Type 0) (values : RowMajor T → Matrix A) (b : ℕ)
+      (out : Matrix A) (last : Limited) (refusal : BlockRefused) (limit : ℕ)
       → ((c : Limited) → may_make c → (c.limit ≡ limit) × (c.seen ≡ 0))
       → IsRefused {T = T} (λ c start rows answer e. IsCounted c start answer e) may_make values b out last refusal
-      → (accepted : List (ℕ × RowMajor T)) × (refused : ℕ × RowMajor T) × AreBlocksOf values b out (accepted ++ refused ∷ []) × (length accepted ≡ limit) × (refusal.start ≡ refused.0)
+      → (accepted : List (ℕ × RowMajor T)) × (refused : ℕ × RowMajor T)
+      × AreBlocksOf values b out (accepted ++ refused ∷ []) × (length accepted ≡ limit)
+      × (refusal.start ≡ refused.0)
   one_too_many may_make values b out last refusal limit new x =
       let first = new x.first x.made in
       let middle = x.run.middle in
       let told = taken x.accepted x.first middle (omega (arith, first.0, first.1)) x.run.run in
       ⊎_elim
       (λ below. absurd (ok_is_no_err _ _ (x.run.stop.taken below).0))
-      (λ full. (x.accepted, x.refused, x.blocks, omega (arith, full, told.0, told.1, told.2, first.0, first.1), ap (λ a. start_of a) (x.run.stop.refused full).0))
+      (λ full. (
+        x.accepted,
+        x.refused,
+        x.blocks,
+        omega (arith, full, told.0, told.1, told.2, first.0, first.1),
+        ap (λ a. start_of a) (x.run.stop.refused full).0,
+      ))
       (cases_lt middle.seen middle.limit)

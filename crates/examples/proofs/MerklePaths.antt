@@ -1,5 +1,6 @@
 -- The nodes of a tree by their numbers, and the paths that lead through them.
-use Rattle.std.proofs.Common.{◌≡◌, ℕ, zero, suc, ◌+◌, ◌-◌, ◌*◌, ◌/◌, ◌%◌, ◌^◌, ◌<◌, ◌≤◌, ◌==◌, cond, ◌⊎◌, inl, inr, List, [], ◌∷◌, ◌++◌, get_or, length, map, refl, sym, ap, ap₂, ◌∙◌, arith}
+use Rattle.std.proofs.Common.{◌≡◌, ℕ, zero, suc, ◌+◌, ◌-◌, ◌*◌, ◌/◌, ◌%◌, ◌^◌, ◌<◌, ◌≤◌, ◌==◌, cond, ◌⊎◌, inl, inr}
+use Rattle.std.proofs.Common.{List, [], ◌∷◌, ◌++◌, get_or, length, map, refl, sym, ap, ap₂, ◌∙◌, arith}
 use Rattle.std.proofs.Math.Nat.{mul-le-mul_left, two-pow-succ}
 use Rattle.std.proofs.lemmas.Bool.{cases_lt}
 use Rattle.std.proofs.lemmas.Nat.{pow_pos}
@@ -14,7 +15,8 @@ sibling_inside n s leaves some inside even odd = cases (cases_lt (n % 2) 1)
     cases (inl low) = let none : n % 2 ≡ 0 = omega (arith, low) in omega (arith, even none, inside, none)
     cases (inr high) = let one : n % 2 ≡ 1 = omega (arith, high) in omega (arith, odd one, inside, one)
 
-module _ {D V : Type 0} {worth : D → V} {join : V → V → V} {leaves : ℕ} {leaf : ℕ → V} {nodes : List D} (are : AreNodes worth join leaves leaf nodes) (d : D) where
+module _ {D V : Type 0} {worth : D → V} {join : V → V → V} {leaves : ℕ} {leaf : ℕ → V} {nodes : List D}
+    (are : AreNodes worth join leaves leaf nodes) (d : D) where
   abbrev at : ℕ → V
   at n = worth (get_or nodes n d)
 
@@ -52,7 +54,8 @@ module _ {D V : Type 0} {worth : D → V} {join : V → V → V} {leaves : ℕ} 
       rw odd (ap₂ (λ p q. join (at p) (at q)) before place ∙ sym (are.joined (n / 2) d (omega (arith, some)) (omega (arith, inside))))
 
   -- so with its sibling a node leads to where its parent does
-  pub one_step : (n s : ℕ) (x : D) (rest : List V) (root : V) → 2 ≤ n → n < 2 * leaves → (n % 2 ≡ 0 → s ≡ n + 1) → (n % 2 ≡ 1 → s ≡ n - 1) → x ≡ get_or nodes s d
+  pub one_step : (n s : ℕ) (x : D) (rest : List V) (root : V) → 2 ≤ n → n < 2 * leaves → (n % 2 ≡ 0 → s ≡ n + 1)
+      → (n % 2 ≡ 1 → s ≡ n - 1) → x ≡ get_or nodes s d
       → climbed join (n / 2) (at (n / 2)) rest ≡ root → climbed join n (at n) (worth x ∷ rest) ≡ root
   one_step n s x rest root some inside even odd is leads = ap (λ v. climbed join (n / 2) v rest) (cases (cases_lt (n % 2) 1)) ∙ leads
     where
@@ -93,10 +96,13 @@ module _ {V : Type 0} (join : V → V → V) where
       let halved : 2 ^ k + i / 2 ≡ node / 2 = omega (arith, two-pow-succ k) in
       let parity : i % 2 ≡ node % 2 = omega (arith, two-pow-succ k) in
       of_pair i s leaf v told.0
-      (bound_leaf path k (i / 2) (λ q. join (leaf (2 * q)) (leaf (2 * q + 1))) (parent join i v s) (omega (arith, long)) (omega (arith, inside, two-pow-succ k)) told.1
+      (bound_leaf path k (i / 2) (λ q. join (leaf (2 * q)) (leaf (2 * q + 1))) (parent join i v s)
+      (omega (arith, long)) (omega (arith, inside, two-pow-succ k)) told.1
       (ap₂ (λ n p. climbed join n (cond (p == 0) (join v s) (join s v)) path) halved parity ∙ leads ∙ tree_of_joined k leaf))
     where
-      of_pair : (i : ℕ) (s : V) (leaf : ℕ → V) (v : V) → AreToldApart join (cond (i % 2 == 0) v s) (cond (i % 2 == 0) s v) (leaf (2 * (i / 2))) (leaf (2 * (i / 2) + 1))
+      of_pair : (i : ℕ) (s : V) (leaf : ℕ → V) (v : V)
+          → AreToldApart join (cond (i % 2 == 0) v s) (cond (i % 2 == 0) s v) (leaf (2 * (i / 2)))
+          (leaf (2 * (i / 2) + 1))
           → parent join i v s ≡ join (leaf (2 * (i / 2))) (leaf (2 * (i / 2) + 1)) → v ≡ leaf i
       of_pair i s leaf v told pair = cases (cases_lt (i % 2) 1)
         where

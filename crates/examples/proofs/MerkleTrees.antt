@@ -1,5 +1,6 @@
 -- What a consumer holds that digests the rows of each block that it is lent, and the tree over its digests.
-use Rattle.std.proofs.Common.{◌≡◌, ℕ, zero, suc, ◌+◌, ◌*◌, ◌-◌, ◌/◌, ◌^◌, ◌<◌, ◌≤◌, ◌⊎◌, List, length, get_or, map, take, drop, Result, Ok, refl, sym, ap, ap₂, ◌∙◌, subst, arith, ⊎_elim}
+use Rattle.std.proofs.Common.{◌≡◌, ℕ, zero, suc, ◌+◌, ◌*◌, ◌-◌, ◌/◌, ◌^◌, ◌<◌, ◌≤◌, ◌⊎◌, List, length, get_or, map}
+use Rattle.std.proofs.Common.{take, drop, Result, Ok, refl, sym, ap, ap₂, ◌∙◌, subst, arith, ⊎_elim}
 use Rattle.std.specs.Prelude.{⊤}
 use Rattle.std.specs.List.{range_with_len}
 use Rattle.std.proofs.Math.Nat.{two-pow-succ}
@@ -45,7 +46,8 @@ joined_halves worth join (suc j) xs front back d some size front_is back_is =
     let half : length xs / 2 ≡ 2 ^ j = (halves (suc j) (length xs) some size).0 ∙ ap (λ n. 2 ^ n) log in
     rw log
     (ap₂ join
-    (tree_same join j (λ i. worth (get_or front i d)) (λ i. worth (get_or xs i d)) (λ i l. ap worth (ap (λ ys. get_or ys i d) front_is ∙ get_or-take (length xs / 2) xs i d (omega (arith, half, l)))))
+    (tree_same join j (λ i. worth (get_or front i d)) (λ i. worth (get_or xs i d)) (λ i l. ap worth
+    (ap (λ ys. get_or ys i d) front_is ∙ get_or-take (length xs / 2) xs i d (omega (arith, half, l)))))
     (tree_same join j (λ i. worth (get_or back i d)) (λ i. worth (get_or xs (2 ^ j + i) d))
     (λ i l. ap worth (ap (λ ys. get_or ys i d) back_is ∙ get_or-drop (length xs / 2) xs i d ∙ ap (λ n. get_or xs (n + i) d) half))))
 
@@ -55,18 +57,24 @@ module _ {T : Type 0} (d : T) (m : RowMajor T) (whole : IsRowMajor m) (b : ℕ) 
   block_row q r low inside =
       let w = m.width in
       let p = rows_from m (q * b) b in
-      let is = is_block (λ x. x) d m whole (matrix d m) (record { height = refl; width = refl; alike = λ i j x y. refl }) b (divisor b (height m) q low) q low in
+      let is =
+      is_block (λ x. x) d m whole (matrix d m) (record { height = refl; width = refl; alike = λ i j x y. refl }) b
+      (divisor b (height m) q low) q low in
       let tall : height p ≡ b = is.rows.height in
       let room : q * b + b ≤ height m = block_within q b (height m) low in (
         tall,
         part_by_index p.values (r * w) w d (row_within r (height p) w (length p.values) (omega (arith, inside, tall)) is.whole.full)
-            ∙ list_same (λ j. get_or p.values (r * w + j) d) (λ j. get_or m.values ((q * b + r) * w + j) d) w (λ j l. is.rows.alike r j (omega (arith, inside, tall)) l)
-            ∙ sym (part_by_index m.values ((q * b + r) * w) w d (row_within (q * b + r) (height m) w (length m.values) (omega (arith, room, inside)) whole.full)),
+            ∙ list_same (λ j. get_or p.values (r * w + j) d) (λ j. get_or m.values ((q * b + r) * w + j) d) w
+            (λ j l. is.rows.alike r j (omega (arith, inside, tall)) l)
+            ∙ sym (part_by_index m.values ((q * b + r) * w) w d
+            (row_within (q * b + r) (height m) w (length m.values) (omega (arith, room, inside)) whole.full)),
       )
 
-module _ {C T R D V : Type 0} (step : C → ℕ → RowMajor T → Result ⊤ R → C → Type 0) (worth : D → V) (of : List T → V) (digests : C → List D) (IsRight : C → Type 0)
+module _ {C T R D V : Type 0} (step : C → ℕ → RowMajor T → Result ⊤ R → C → Type 0) (worth : D → V) (of : List T → V)
+    (digests : C → List D) (IsRight : C → Type 0)
     (next : (c : C) (start : ℕ) (rows : RowMajor T) (e : C) → IsRight c → step c start rows (Ok tt) e
-    → IsRight e × AreHashed worth (λ r. of (row rows r)) start (height rows) (digests c) (digests e)) (z : T) (m : RowMajor T) (whole : IsRowMajor m) (b : ℕ) where
+    → IsRight e × AreHashed worth (λ r. of (row rows r)) start (height rows) (digests c) (digests e)) (z : T)
+    (m : RowMajor T) (whole : IsRowMajor m) (b : ℕ) where
   -- there is a place for each row
   abbrev HasRoom : C → Type 0
   HasRoom c = IsRight c × (length (digests c) ≡ height m)
@@ -109,7 +117,8 @@ module _ {C T R D V : Type 0} (step : C → ℕ → RowMajor T → Result ⊤ R 
       )
 
   -- and after all blocks of the matrix each row has it
-  pub all_hashed : (may_make : C → Type 0) (last : C) → ((c : C) → may_make c → HasRoom c) → IsPublished step may_make b m last → AreDigests worth of m (digests last)
+  pub all_hashed : (may_make : C → Type 0) (last : C) → ((c : C) → may_make c → HasRoom c)
+      → IsPublished step may_make b m last → AreDigests worth of m (digests last)
   all_hashed may_make last new x =
       let done = of_all_blocks step HasRoom HasDigests b m after_block may_make last new x in
       record {
@@ -121,14 +130,19 @@ module _ {C T R D V : Type 0} (step : C → ℕ → RowMajor T → Result ⊤ R 
 
 -- the root over the digests of the rows is that of the rows
 pub root_of_digests : {T D V : Type 0} (worth : D → V) (join : V → V → V) (of : List T → V) (m : RowMajor T) (digests xs : List D) (k bits : ℕ) (d : D)
-    → AreDigests worth of m digests → xs ≡ digests → height m ≡ 2 ^ bits → k ≡ bits → tree join k (λ i. worth (get_or xs i d)) ≡ tree join bits (λ i. of (row m i))
+    → AreDigests worth of m digests → xs ≡ digests → height m ≡ 2 ^ bits → k
+    ≡ bits → tree join k (λ i. worth (get_or xs i d)) ≡ tree join bits (λ i. of (row m i))
 root_of_digests worth join of m digests xs k bits d are is high log =
     ap (λ n. tree join n (λ i. worth (get_or xs i d))) log
     ∙ tree_same join bits (λ i. worth (get_or xs i d)) (λ i. of (row m i)) (λ i l. ap (λ ys. worth (get_or ys i d)) is ∙ are.each i (omega (arith, l, high)) d)
 
 -- matrices that are one are so with their rows in bit reversed order
 pub reversed_alike : {E : Type 0} (n : ℕ) (a b : Matrix E) → a.height ≡ 2 ^ n → Same a b → Same (bit_reversal n a) (bit_reversal n b)
-reversed_alike n a b high same = record { height = same.height; width = same.width; alike = λ i j p q. same.alike (rev n i) j (omega (arith, rev-lt n i, high)) q }
+reversed_alike n a b high same = record {
+  height = same.height;
+  width = same.width;
+  alike = λ i j p q. same.alike (rev n i) j (omega (arith, rev-lt n i, high)) q;
+}
 
 module _ {F : Type 0} (f : FieldMembers F) where
   row_values : (m : RowMajor F) → IsRowMajor m → (i : ℕ) → i < height m → map f.value (row m i) ≡ row_of (values_of f m) i
@@ -137,7 +151,8 @@ module _ {F : Type 0} (f : FieldMembers F) where
       ∙ map-map f.value (λ j. get_or m.values (i * m.width + j) f.zero) (range_with_len 0 m.width)
 
   -- rows of equal values
-  rows_alike : (a b : RowMajor F) → IsRowMajor a → IsRowMajor b → Same (values_of f a) (values_of f b) → (i : ℕ) → i < height a → map f.value (row a i) ≡ map f.value (row b i)
+  rows_alike : (a b : RowMajor F) → IsRowMajor a → IsRowMajor b → Same (values_of f a) (values_of f b) → (i : ℕ)
+      → i < height a → map f.value (row a i) ≡ map f.value (row b i)
   rows_alike a b whole other same i below =
       row_values a whole i below
       ∙ list_same ((values_of f a).entry i) ((values_of f b).entry i) a.width (λ j l. same.alike i j below l)

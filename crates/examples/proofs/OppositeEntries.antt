@@ -16,7 +16,8 @@ from_end : (h i j len : ℕ) → i < h → j < 2 → len ≡ h * 2 → len - 1 -
 from_end h i j len below inside is = omega (arith, below, inside, is)
 
 -- and entry (i, j) is the one as far from the last one
-pub opposite : {F : Type 0} (f : FieldMembers F) (m n : RowMajor F) → IsRowMajor m → m.width ≡ 2 → n.width ≡ 2 → n.values ≡ reverse m.values → (c : Matrix f.Element) → Same (values_of f m) c
+pub opposite : {F : Type 0} (f : FieldMembers F) (m n : RowMajor F) → IsRowMajor m → m.width ≡ 2 → n.width ≡ 2
+    → n.values ≡ reverse m.values → (c : Matrix f.Element) → Same (values_of f m) c
     → Same (record { height = c.height; width = 2; entry = λ i j. c.entry (c.height - 1 - i) (1 - j) }) (values_of f n)
 opposite f m n whole two two_too is c same =
     let shape = same_shape m n (two_too ∙ sym two) is in

@@ -1,5 +1,6 @@
 -- A transform by parts: the sizes of the parts, and a matrix that is written row by row from the rows of others, in turn.
-use Rattle.std.proofs.Common.{◌≡◌, ℕ, suc, ◌+◌, ◌-◌, ◌*◌, ◌/◌, ◌%◌, ◌^◌, ◌<◌, ◌≤◌, ◌⊎◌, inl, inr, List, ◌++◌, length, get_or, rules, refl, sym, ap, ap₂, ◌∙◌, subst, arith, pow-add, pow_pos}
+use Rattle.std.proofs.Common.{◌≡◌, ℕ, suc, ◌+◌, ◌-◌, ◌*◌, ◌/◌, ◌%◌, ◌^◌, ◌<◌, ◌≤◌, ◌⊎◌, inl, inr, List, ◌++◌, length}
+use Rattle.std.proofs.Common.{get_or, rules, refl, sym, ap, ap₂, ◌∙◌, subst, arith, pow-add, pow_pos}
 use Rattle.std.proofs.Math.ListN.{get_or-append}
 use Rattle.std.proofs.Math.Nat.{div-mul-le_self, mul-div_cancel, mul-le-mul_left, mul-le-mul_right, two-pow-succ}
 use Rattle.std.proofs.lemmas.Bool.{cases_lt}

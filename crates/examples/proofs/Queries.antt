@@ -49,7 +49,8 @@ module _ {F : Type 0} (f : FieldMembers F) (m : RowMajor F) (whole : IsRowMajor 
 
   -- and fold to row i of the next codeword
   pub pair_folds : (g : ℕ → f.Element) (beta s : f.Element) (next : RowMajor F) → IsRowMajor pair
-      → AreFoldedRows f.ring g beta k s (bit_reversal (suc k) (values_of f m)) (bit_reversal k (values_of f next)) → FoldsTo f g k s beta i (values_of f pair) ((values_of f next).entry i)
+      → AreFoldedRows f.ring g beta k s (bit_reversal (suc k) (values_of f m)) (bit_reversal k (values_of f next)) →
+      FoldsTo f g k s beta i (values_of f pair) ((values_of f next).entry i)
   pair_folds g beta s next full folded j in_row =
       let back = rev-rev k i below in
       let near : rev (suc k) (rev k i) ≡ 2 * i + 0 = rev-low k (rev k i) (rev-lt k i) ∙ ap (λ n. 2 * n) back ∙ (let e : 2 * i ≡ 2 * i + 0 = omega arith in e) in

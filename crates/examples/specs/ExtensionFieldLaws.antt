@@ -91,9 +91,13 @@ module _ {A : Type 0} (r : Ring A) (w z o : A) (none : z ≡ r.zero) (unit : o �
   lifted_parts a b =
       ap (embedded below (z, o)) (two_parts r w z o none unit a b)
       ∙ sym (embedded-add below (z, o) (embedded r w a) (below.mul (z, o) (embedded r w b)))
-      ∙ ap (ring.add (twice a)) (sym (embedded-mul below (z, o) (z, o) (embedded r w b)) ∙ ap (λ y. ring.mul y (twice b)) (sym (root-square below (z, o) (z, z) (o, z) root_none root_unit)))
+      ∙ ap (ring.add (twice a)) (sym (embedded-mul below (z, o) (z, o) (embedded r w b))
+      ∙ ap (λ y. ring.mul y (twice b)) (sym (root-square below (z, o) (z, z) (o, z) root_none root_unit)))
 
-  pub two_steps_polynomial : (c : ℕ → A) → ((c 0, c 2), (c 1, c 3)) ≡ poly (quadratic (quadratic r w) (z, o)) 4 (λ t. embedded (quadratic r w) (z, o) (embedded r w (c t))) ((z, z), (o, z))
+  pub two_steps_polynomial : (c : ℕ → A)
+      → ((c 0, c 2), (c 1, c 3))
+      ≡ poly (quadratic (quadratic r w) (z, o)) 4 (λ t. embedded (quadratic r w) (z, o) (embedded r w (c t)))
+      ((z, z), (o, z))
   two_steps_polynomial c =
       two_parts below (z, o) (z, z) (o, z) root_none root_unit (c 0, c 2) (c 1, c 3)
       ∙ ap₂ (λ x y. ring.add x (ring.mul root y)) (lifted_parts (c 0) (c 2)) (lifted_parts (c 1) (c 3))

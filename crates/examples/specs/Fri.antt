@@ -11,7 +11,8 @@ use Rattle.examples.specs.Foldings.{AreFoldedRows, IsFoldedPair}
 use Rattle.examples.specs.MerkleTrees.{AreNodes, climbed}
 
 -- two rows of such a width and a path that leads from their digest, as leaf i of 2 ^ k, to this root
-pub record IsOpened {F D V : Type 0} (worth : D → V) (join : V → V → V) (of_row : List F → V) (k i w : ℕ) (root : V) (pair : RowMajor F) (path : List D) : Type 0 where
+pub record IsOpened {F D V : Type 0} (worth : D → V) (join : V → V → V) (of_row : List F → V) (k i w : ℕ) (root : V)
+    (pair : RowMajor F) (path : List D) : Type 0 where
   pub height : height pair ≡ 2
   pub width : pair.width ≡ w
   pub long : length path ≡ k
@@ -20,7 +21,9 @@ pub record IsOpened {F D V : Type 0} (worth : D → V) (join : V → V → V) (o
 module _ {F : Type 0} (f : FieldMembers F) (g : ℕ → f.Element) where
   -- pair i of the codeword on the coset of s of order 2 ^ (k + 1) is folded with beta to the row `next`, of the coset of s * s
   abbrev pub FoldsTo : (k : ℕ) (s beta : f.Element) (i : ℕ) (pair : Matrix f.Element) (next : ℕ → f.Element) → Type 0
-  FoldsTo k s beta i pair next = (j : ℕ) → j < pair.width → IsFoldedPair f.ring beta (point f.ring g (suc k) s (rev k i)) (pair.entry 0 j) (pair.entry 1 j) (next j)
+  FoldsTo k s beta i pair next =
+      (j : ℕ) → j < pair.width
+      → IsFoldedPair f.ring beta (point f.ring g (suc k) s (rev k i)) (pair.entry 0 j) (pair.entry 1 j) (next j)
 
   -- pair i of a codeword on the coset of s of order 2 ^ log, and what is opened of the n - 1 after it, down to the last one: pair l, of
   -- number i / 2 ^ l, is on the coset of s ^ 2 ^ l, and is folded to the row of that number, which is in the next pair
@@ -29,12 +32,18 @@ module _ {F : Type 0} (f : FieldMembers F) (g : ℕ → f.Element) where
     pub to_last : (l : ℕ) → suc l ≡ n → FoldsTo (log - suc l) (power f.ring s (2 ^ l)) (betas l) (i / 2 ^ l) (pairs l) (last.entry (i / 2 ^ l))
 
   -- a codeword on the coset of s of order 2 ^ (k + 1) with the nodes of the tree over its pairs, which is folded with beta to the next one
-  pub record IsLayer {D V : Type 0} (worth : D → V) (join : V → V → V) (of_row : List F → V) (k : ℕ) (s beta : f.Element) (codeword next : RowMajor F) (nodes : List D) : Type 0 where
+  pub record IsLayer {D V : Type 0} (worth : D → V) (join : V → V → V) (of_row : List F → V) (k : ℕ)
+      (s beta : f.Element) (codeword next : RowMajor F) (nodes : List D) : Type 0 where
     pub height : height codeword ≡ 2 ^ suc k
     pub tree : AreNodes worth join (2 ^ k) (λ i. of_row (rows_from codeword (2 * i) 2).values) nodes
     pub folds : AreFoldedRows f.ring g beta k s (bit_reversal (suc k) (values_of f codeword)) (bit_reversal k (values_of f next))
 
   -- n codewords, the first on the coset of s of order 2 ^ log, each folded with its challenge to the next one, which is on the coset of
   -- the squared shift, down to codeword n
-  abbrev pub AreLayers : {D V : Type 0} (worth : D → V) (join : V → V → V) (of_row : List F → V) (log n : ℕ) (s : f.Element) (betas : ℕ → f.Element) (codewords : ℕ → RowMajor F) (nodes : ℕ → List D) → Type 0
-  AreLayers worth join of_row log n s betas codewords nodes = (l : ℕ) → l < n → IsLayer worth join of_row (log - suc l) (power f.ring s (2 ^ l)) (betas l) (codewords l) (codewords (suc l)) (nodes l)
+  abbrev pub AreLayers : {D V : Type 0} (worth : D → V) (join : V → V → V) (of_row : List F → V) (log n : ℕ)
+      (s : f.Element) (betas : ℕ → f.Element) (codewords : ℕ → RowMajor F) (nodes : ℕ → List D)
+      → Type 0
+  AreLayers worth join of_row log n s betas codewords nodes =
+      (l : ℕ) → l < n
+      → IsLayer worth join of_row (log - suc l) (power f.ring s (2 ^ l)) (betas l) (codewords l) (codewords (suc l))
+      (nodes l)

@@ -28,7 +28,8 @@ paired_parts a b c d same = elim (cases_order (a + b) (c + d)) [
   | inr (inr more) ↦ absurd (apart (c + d) (a + b) c a (omega arith) more (sym same))
 ]
 
-pub paired_law : {A : Type 0} (number : A → ℕ) → ((x y : A) → number x ≡ number y → x ≡ y) → (x y : A × A) → paired (number x.0) (number x.1) ≡ paired (number y.0) (number y.1) → x ≡ y
+pub paired_law : {A : Type 0} (number : A → ℕ) → ((x y : A) → number x ≡ number y → x ≡ y) → (x y : A × A)
+    → paired (number x.0) (number x.1) ≡ paired (number y.0) (number y.1) → x ≡ y
 paired_law number law x y same =
     let parts = paired_parts (number x.0) (number x.1) (number y.0) (number y.1) same in
     both (law x.0 y.0 parts.0) (law x.1 y.1 parts.1)

@@ -10,11 +10,13 @@ module _ {A : Type 0} (r : Ring A) (w : A) where
   infixl 70 ◌⊗◌
   pub constant-assoc : (a b c d e f : A) → (a ⊗ c ⊕ w ⊗ (b ⊗ d)) ⊗ e ⊕ w ⊗ ((a ⊗ d ⊕ b ⊗ c) ⊗ f) ≡ a ⊗ (c ⊗ e ⊕ w ⊗ (d ⊗ f)) ⊕ w ⊗ (b ⊗ (c ⊗ f ⊕ d ⊗ e))
   constant-assoc a b c d e f =
-      solve r (a ∷ b ∷ c ∷ d ∷ e ∷ f ∷ w ∷ []) ((va ⊠ vc ⊞ v 6 ⊠ (vb ⊠ vd)) ⊠ ve ⊞ v 6 ⊠ ((va ⊠ vd ⊞ vb ⊠ vc) ⊠ vf)) (va ⊠ (vc ⊠ ve ⊞ v 6 ⊠ (vd ⊠ vf)) ⊞ v 6 ⊠ (vb ⊠ (vc ⊠ vf ⊞ vd ⊠ ve))) refl
+      solve r (a ∷ b ∷ c ∷ d ∷ e ∷ f ∷ w ∷ []) ((va ⊠ vc ⊞ v 6 ⊠ (vb ⊠ vd)) ⊠ ve ⊞ v 6 ⊠ ((va ⊠ vd ⊞ vb ⊠ vc) ⊠ vf))
+      (va ⊠ (vc ⊠ ve ⊞ v 6 ⊠ (vd ⊠ vf)) ⊞ v 6 ⊠ (vb ⊠ (vc ⊠ vf ⊞ vd ⊠ ve))) refl
 
   pub linear-assoc : (a b c d e f : A) → (a ⊗ c ⊕ w ⊗ (b ⊗ d)) ⊗ f ⊕ (a ⊗ d ⊕ b ⊗ c) ⊗ e ≡ a ⊗ (c ⊗ f ⊕ d ⊗ e) ⊕ b ⊗ (c ⊗ e ⊕ w ⊗ (d ⊗ f))
   linear-assoc a b c d e f =
-      solve r (a ∷ b ∷ c ∷ d ∷ e ∷ f ∷ w ∷ []) ((va ⊠ vc ⊞ v 6 ⊠ (vb ⊠ vd)) ⊠ vf ⊞ (va ⊠ vd ⊞ vb ⊠ vc) ⊠ ve) (va ⊠ (vc ⊠ vf ⊞ vd ⊠ ve) ⊞ vb ⊠ (vc ⊠ ve ⊞ v 6 ⊠ (vd ⊠ vf))) refl
+      solve r (a ∷ b ∷ c ∷ d ∷ e ∷ f ∷ w ∷ []) ((va ⊠ vc ⊞ v 6 ⊠ (vb ⊠ vd)) ⊠ vf ⊞ (va ⊠ vd ⊞ vb ⊠ vc) ⊠ ve)
+      (va ⊠ (vc ⊠ vf ⊞ vd ⊠ ve) ⊞ vb ⊠ (vc ⊠ ve ⊞ v 6 ⊠ (vd ⊠ vf))) refl
 
   pub constant-add : (a b c d e f : A) → a ⊗ (c ⊕ e) ⊕ w ⊗ (b ⊗ (d ⊕ f)) ≡ (a ⊗ c ⊕ w ⊗ (b ⊗ d)) ⊕ (a ⊗ e ⊕ w ⊗ (b ⊗ f))
   constant-add a b c d e f =

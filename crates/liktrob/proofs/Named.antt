@@ -32,7 +32,9 @@ both true t h = (refl, h)
 both false t h = absurd (true≢false (sym h))
 
 -- an element has an inverse where a shift that names it does
-pub named_inverse : {F W : Type 0} (f : FieldInWords F W) → ((x y : f.members.Element) → f.members.number x ≡ f.members.number y → x ≡ y) → (shift : W) (s : F) → Names f shift s
+pub named_inverse : {F W : Type 0} (f : FieldInWords F W)
+    → ((x y : f.members.Element) → f.members.number x ≡ f.members.number y → x ≡ y) → (shift : W) (s : F)
+    → Names f shift s
     → HasInverse f shift → IsInvertible f.members.ring (f.members.value s)
 named_inverse f one_value shift s named has =
     subst (λ (x : f.members.Element). IsInvertible f.members.ring x) (one_value (f.members.value has.0) (f.members.value s) (sym has.1 ∙ named)) has.2
@@ -50,8 +52,11 @@ without_tables s n m bytes more (Err e) fewer (inl within) = inl within
 without_tables s n m bytes more (Err e) fewer (inr within) = inr (within_larger 0 bytes m more (omega arith) fewer e within)
 
 -- no condition failed, and memory was refused: the error that `?` hands on tells so
-pub out_of_memory_told : {A : Type 0} (r : Result A Refusal) (e : DftError) (memory : DftError → Type 0) {engine numbers shape shift : Type 0} → IsErr r × IsErrAnd r (λ y. y ≡ OutOfMemory e) → engine → numbers → shape → shift
+pub out_of_memory_told : {A : Type 0} (r : Result A Refusal) (e : DftError) (memory : DftError → Type 0)
+    {engine numbers shape shift : Type 0}
+    → IsErr r × IsErrAnd r (λ y. y ≡ OutOfMemory e) → engine → numbers → shape → shift
     → memory e → Tells (refusal_of r) engine numbers shape shift memory
 out_of_memory_told (Ok x) e memory err known_engine known_numbers known_shape known_shift refused = (known_engine, known_numbers, known_shape, known_shift)
 out_of_memory_told (Err y) e memory {engine} {numbers} {shape} {shift} err known_engine known_numbers known_shape known_shift refused =
-    subst (λ (z : Refusal). Tells (refusal_of {T = ℕ} (Err z)) engine numbers shape shift memory) (sym err.1) (known_engine, known_numbers, known_shape, known_shift, refused)
+    subst (λ (z : Refusal). Tells (refusal_of {T = ℕ} (Err z)) engine numbers shape shift memory) (sym err.1)
+    (known_engine, known_numbers, known_shape, known_shift, refused)

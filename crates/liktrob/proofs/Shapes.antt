@@ -1,4 +1,5 @@
--- Shapes that fit: whole rows are as many as the division tells, what is extended has a size that a usize holds, and what is answered is as many times as large.
+-- Shapes that fit: whole rows are as many as the division tells, what is extended has a size that a usize holds, and
+-- what is answered is as many times as large.
 use Rattle.std.proofs.Common.{add-zero, ◌≡◌, ℕ, ◌*◌, ◌/◌, ◌%◌, ◌^◌, ◌+◌, ◌<◌, ◌≤◌, List, length, sym, ap, ap₂, ◌∙◌, subst, arith, pow_pos}
 use Rattle.std.proofs.Math.Nat.{mod-eq_of_lt, mul-div_cancel, mul-le-mul_left}
 use Rattle.std.proofs.lemmas.Nat.{pow-add}
@@ -54,7 +55,8 @@ module _ {F W : Type 0} (R : W → F → Type 0) {width : ℕ} (words : List W) 
   named_fits {bits = bits} {a = a} fit = fits_lde_as bits (length words / width) width a (height m) m.width (rows_fit fit) rows_named wide
 
 -- the size of an extension is not cut off
-pub size_held : (bits count width a : ℕ) → (count / width) * width ≡ count → FitsLde bits (count / width) width a → count * 2 ^ a % 18446744073709551616 ≡ count * 2 ^ a
+pub size_held : (bits count width a : ℕ) → (count / width) * width ≡ count → FitsLde bits (count / width) width a
+    → count * 2 ^ a % 18446744073709551616 ≡ count * 2 ^ a
 size_held bits count width a whole fits = mod-eq_of_lt (subst (λ (n : ℕ). n * 2 ^ a < 2 ^ 64) whole (output_size bits (count / width) width a fits))
 
 -- as many times as many rows have as many times as many entries
@@ -64,7 +66,9 @@ size_is m a rows w whole high wide =
     ap₂ (λ (h v : ℕ). h * v) high wide ∙ by_rows ∙ ap (λ n. n * 2 ^ a) whole.full
 
 -- so have values on a coset of as many times as many points as m has rows
-pub values_size : {F : Type 0} (f : FieldMembers F) (g : ℕ → f.Element) (m out : RowMajor F) (k a : ℕ) (s : f.Element) (c : Matrix f.Element) → IsRowMajor m → IsRowMajor out
+pub values_size : {F : Type 0} (f : FieldMembers F) (g : ℕ → f.Element) (m out : RowMajor F) (k a : ℕ) (s : f.Element)
+    (c : Matrix f.Element)
+    → IsRowMajor m → IsRowMajor out
     → height m ≡ 2 ^ k → c.width ≡ m.width → IsValues f.ring g c (k + a) s (values_of f out) → length out.values ≡ length m.values * 2 ^ a
 values_size f g m out k a s c whole out_whole high wide values =
     sym out_whole.full

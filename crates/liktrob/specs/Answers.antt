@@ -53,4 +53,6 @@ module _ {F W : Type 0} (f : FieldInWords F W) where
     pub by : F
     pub named : AreNamed f words width (log_message + added_bits) shift word by
     pub two_valued : answer ≤ 1
-    pub exact : answer ≡ 1 ↔ IsCodeword f.members f.generator (record { log_message = log_message; added_bits = added_bits; shift = by }) (values_of f.members word)
+    pub exact : answer ≡ 1
+        ↔ IsCodeword f.members f.generator (record { log_message = log_message; added_bits = added_bits; shift = by })
+        (values_of f.members word)

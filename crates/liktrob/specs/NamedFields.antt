@@ -1,7 +1,8 @@
 -- The fields whose elements callers name by words that are numbers themselves.
 use Rattle.std.specs.Prelude.{ℕ}
 use Rattle.std.specs.Borrow.{RattleType}
-use Rattle.p3_field.specs.Fields.{baby_bear_modulus, baby_bear_numbers, field_generator, goldilocks_generator, goldilocks_modulus, koala_bear_modulus, koala_bear_numbers}
+use Rattle.p3_field.specs.Fields.{baby_bear_modulus, baby_bear_numbers, field_generator, goldilocks_generator}
+use Rattle.p3_field.specs.Fields.{goldilocks_modulus, koala_bear_modulus, koala_bear_numbers}
 use Rattle.p3_field.specs.NamedFields as named
 use Rattle.p3_field.specs.contracts.baby_bear.BabyBearNumbers.{the_row as baby_bear_row}
 use Rattle.p3_field.specs.contracts.goldilocks.GoldilocksIn.{the_row as goldilocks_row}
@@ -19,17 +20,32 @@ use Rattle.liktrob.specs.Words.{FieldInWords, in_words}
 
 abbrev pub baby_bear : FieldInWords (Residue31 BabyBearNumbers baby_bear_members) ℕ
 baby_bear =
-    let generator : ℕ → Residue31 BabyBearNumbers baby_bear_members = λ bits. record { number = (field_generator baby_bear_numbers bits).number; of = _; below = (field_generator baby_bear_numbers bits).below } in
+    let generator : ℕ → Residue31 BabyBearNumbers baby_bear_members =
+    λ bits. record {
+      number = (field_generator baby_bear_numbers bits).number;
+      of = _;
+      below = (field_generator baby_bear_numbers bits).below;
+    } in
     in_words named.baby_bear generator 27 baby_bear_modulus (λ n. n)
 
 abbrev pub koala_bear : FieldInWords (Residue31 KoalaBearNumbers koala_bear_members) ℕ
 koala_bear =
-    let generator : ℕ → Residue31 KoalaBearNumbers koala_bear_members = λ bits. record { number = (field_generator koala_bear_numbers bits).number; of = _; below = (field_generator koala_bear_numbers bits).below } in
+    let generator : ℕ → Residue31 KoalaBearNumbers koala_bear_members =
+    λ bits. record {
+      number = (field_generator koala_bear_numbers bits).number;
+      of = _;
+      below = (field_generator koala_bear_numbers bits).below;
+    } in
     in_words named.koala_bear generator 24 koala_bear_modulus (λ n. n)
 
 abbrev pub goldilocks : FieldInWords (GoldilocksIn ScalarLanes) ℕ
 goldilocks =
-    let generator : ℕ → GoldilocksIn ScalarLanes = λ bits. record { number = (goldilocks_generator bits).number; of = _; below = (goldilocks_generator bits).below } in
+    let generator : ℕ → GoldilocksIn ScalarLanes =
+    λ bits. record {
+      number = (goldilocks_generator bits).number;
+      of = _;
+      below = (goldilocks_generator bits).below;
+    } in
     in_words named.goldilocks generator 32 goldilocks_modulus (λ n. n)
 
 -- the types of their elements

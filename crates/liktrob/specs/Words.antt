@@ -6,7 +6,8 @@ use Rattle.p3_field.specs.declared.fields.Valued.{Ghosts as FieldMembers}
 use Rattle.p3_matrix.specs.RowMajor.{RowMajor, height}
 use Rattle.p3_dft.specs.Shapes.{FitsLde}
 
--- a field, the generators of its subgroups of order 2 ^ n for n up to two_adicity, and words that name its elements by their numbers, which are below the modulus
+-- a field, the generators of its subgroups of order 2 ^ n for n up to two_adicity, and words that name its elements by
+-- their numbers, which are below the modulus
 pub record FieldInWords (F W : Type 0) : Type 1 where
   pub members : FieldMembers F
   pub generator : ℕ → F

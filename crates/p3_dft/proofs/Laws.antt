@@ -1,4 +1,5 @@
--- What users cite: laws of two calls, the one answer of a job, transforms by parts, values of combinations, coordinates that stand alone, `==` of matrices, why published blocks stopped, and codewords.
+-- What users cite: laws of two calls, the one answer of a job, transforms by parts, values of combinations, coordinates
+-- that stand alone, `==` of matrices, why published blocks stopped, and codewords.
 pub mod Blocks
 pub mod Codes
 pub mod Convolutions

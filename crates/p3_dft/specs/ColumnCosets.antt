@@ -28,4 +28,6 @@ module _ {F : Type 0} (f : FieldMembers F) (generator : ℕ → F) where
     pub holds : (k j : ℕ) → height m ≡ 2 ^ k → j < m.width
         → AreCoefficients f.ring (λ n. f.value (generator n)) (alone j (values_of f m)) k (shifts j) (alone j (values_of f c))
     pub only : (k : ℕ) → height m ≡ 2 ^ k → (d : Matrix f.Element) → d.width ≡ m.width
-        → ((j : ℕ) → j < m.width → AreCoefficients f.ring (λ n. f.value (generator n)) (alone j (values_of f m)) k (shifts j) (alone j d)) → Same d (values_of f c)
+        → ((j : ℕ) → j < m.width
+        → AreCoefficients f.ring (λ n. f.value (generator n)) (alone j (values_of f m)) k (shifts j) (alone j d))
+        → Same d (values_of f c)

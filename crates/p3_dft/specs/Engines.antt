@@ -32,7 +32,8 @@ pub record EngineFacts (E F : Type 0) : Type 1 where
   pub tables : E → ℕ
   pub table_bytes : ℕ
 
--- the facts of an engine whose extensions are an inverse transform and a transform on the larger coset, and published as one block, and which keeps no list of tables
+-- the facts of an engine whose extensions are an inverse transform and a transform on the larger coset, and published
+-- as one block, and which keeps no list of tables
 abbrev pub plain_facts : {E F : Type 0} → (E → ℕ → Type 0) → (E → ℕ → F → Type 0) → (E → ℕ → Type 0) → (ℕ → ℕ → ℕ) → (E → ℕ) → EngineFacts E F
 plain_facts Succeeds SucceedsOnCoset IsLeftPrepared transform_products products_made = record {
   Succeeds = Succeeds;
@@ -72,8 +73,10 @@ module _ {E F : Type 0} (facts : EngineFacts E F) where
 -- after a call whose entries take so many bytes each
 module _ {E F : Type 0} (facts : EngineFacts E F) (bytes : ℕ) where
   -- an engine after a call of 2 ^ k rows: whatever it answered, at most so many products were made, and its list of tables has room for at most so many more;
-  -- where it answered the values, what is said of k is known; and where it answered an error, memory was refused to a vector of no more entries than the answer has, or to the list of tables
-  pub record IsAfter {A : Type 0} (before after : E) (result : Result A DftError) (height : ℕ) (known : ℕ → Type 0) (products : ℕ → ℕ) (entries new_tables : ℕ) : Type 0 where
+  -- where it answered the values, what is said of k is known; and where it answered an error, memory was refused to a
+  -- vector of no more entries than the answer has, or to the list of tables
+  pub record IsAfter {A : Type 0} (before after : E) (result : Result A DftError) (height : ℕ) (known : ℕ → Type 0)
+      (products : ℕ → ℕ) (entries new_tables : ℕ) : Type 0 where
     pub later : IsLater facts before after
     pub prepared : IsOk result → AtLog height known
     pub cost : AtLog height (λ k. facts.products_made after ≤ facts.products_made before + products k)
@@ -83,22 +86,26 @@ module _ {E F : Type 0} (facts : EngineFacts E F) (bytes : ℕ) where
   -- after a transform of a matrix of m's shape or its inverse, with so many more products an entry
   abbrev pub AfterDft : {A T : Type 0} → E → E → Result A DftError → RowMajor T → ℕ → Type 0
   AfterDft before after result m more =
-      IsAfter before after result (height m) (facts.IsLeftPrepared after) (λ k. facts.transform_products k m.width + more * (2 ^ k * m.width)) (height m * m.width) 1
+      IsAfter before after result (height m) (facts.IsLeftPrepared after)
+      (λ k. facts.transform_products k m.width + more * (2 ^ k * m.width)) (height m * m.width) 1
 
   -- after an extension of one by a bits
   abbrev pub AfterLde : {A T : Type 0} → E → E → Result A DftError → RowMajor T → ℕ → Type 0
   AfterLde before after result m a =
-      IsAfter before after result (height m) (λ k. facts.IsLeftPrepared after k × facts.IsLeftPrepared after (k + a)) (λ k. facts.extension_products k a m.width) (height m * m.width * 2 ^ a) (2 ^ a + 1)
+      IsAfter before after result (height m) (λ k. facts.IsLeftPrepared after k × facts.IsLeftPrepared after (k + a))
+      (λ k. facts.extension_products k a m.width) (height m * m.width * 2 ^ a) (2 ^ a + 1)
 
   -- after an extension by a bits of one of coefficients: a transform of the larger height, and a product for each coefficient
   abbrev pub AfterLdeOfCoefficients : {A T : Type 0} → E → E → Result A DftError → RowMajor T → ℕ → Type 0
   AfterLdeOfCoefficients before after result m a =
-      IsAfter before after result (height m) (λ k. facts.IsLeftPrepared after (k + a)) (λ k. facts.transform_products (k + a) m.width + 2 ^ k * m.width) (height m * m.width * 2 ^ a) 1
+      IsAfter before after result (height m) (λ k. facts.IsLeftPrepared after (k + a))
+      (λ k. facts.transform_products (k + a) m.width + 2 ^ k * m.width) (height m * m.width * 2 ^ a) 1
 
   -- and after one by an inverse transform and a transform on the larger coset
   abbrev pub AfterLdeByParts : {A T : Type 0} → E → E → Result A DftError → RowMajor T → ℕ → Type 0
   AfterLdeByParts before after result m a =
-      IsAfter before after result (height m) (λ k. facts.IsLeftPrepared after k × facts.IsLeftPrepared after (k + a)) (λ k. extension_bound facts.transform_products k a m.width) (height m * m.width * 2 ^ a) (2 ^ a + 1)
+      IsAfter before after result (height m) (λ k. facts.IsLeftPrepared after k × facts.IsLeftPrepared after (k + a))
+      (λ k. extension_bound facts.transform_products k a m.width) (height m * m.width * 2 ^ a) (2 ^ a + 1)
 
 -- a matrix of one column
 abbrev pub one_column : {T : Type 0} → List T → RowMajor T

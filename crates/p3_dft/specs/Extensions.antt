@@ -22,7 +22,8 @@ abbrev pub KeepsShape : {F : Type 0} (m : RowMajor F) (may_answer : RowMajor F �
 KeepsShape {F} m may_answer = (n out : RowMajor F) → IsRowMajor n → HasShapeOf n m → may_answer n out → HasShapeOf out m
 
 module _ {F : Type 0} (f : FieldMembers F) (generator : ℕ → F) where
-  -- row i of out has the values, at point i of the coset of s of 2 ^ a times as many points, of the polynomials whose values on the subgroup are the columns of m
+  -- row i of out has the values, at point i of the coset of s of 2 ^ a times as many points, of the polynomials whose
+  -- values on the subgroup are the columns of m
   pub record AreExtendedValues (m : RowMajor F) (a : ℕ) (s : f.Element) (out : Matrix f.Element) : Type 0 where
     pub coefficients : Matrix f.Element
     pub are_coefficients : (k : ℕ) → height m ≡ 2 ^ k → AreCoefficients f.ring (λ n. f.value (generator n)) (values_of f m) k f.ring.one coefficients
@@ -33,7 +34,8 @@ module _ {F : Type 0} (f : FieldMembers F) (generator : ℕ → F) where
   IsExtension m a s out = AreExtendedValues m a s (values_of f out)
 
   -- out has the same of the polynomials that a transform made of those: called with the coefficients in a layout it may answer the changed ones in that layout
-  pub record AreTransformedValues (may_answer : RowMajor F → Layout → RowMajor F → Type 0) (layout : Layout) (m : RowMajor F) (a : ℕ) (s : f.Element) (out : Matrix f.Element) : Type 0 where
+  pub record AreTransformedValues (may_answer : RowMajor F → Layout → RowMajor F → Type 0) (layout : Layout)
+      (m : RowMajor F) (a : ℕ) (s : f.Element) (out : Matrix f.Element) : Type 0 where
     pub coefficients : Matrix f.Element
     pub are_coefficients : (k : ℕ) → height m ≡ 2 ^ k → AreCoefficients f.ring (λ n. f.value (generator n)) (values_of f m) k f.ring.one coefficients
     pub told : RowMajor F
@@ -53,7 +55,9 @@ module _ {F : Type 0} (f : FieldMembers F) (generator : ℕ → F) where
   -- above rows of zeros, which make out 2 ^ a times as high, it has what a transform may answer that is called with the coefficients of m in bit reversed order
   pub record IsAnswerOverZeros (may_answer : RowMajor F → RowMajor F → Type 0) (m : RowMajor F) (a : ℕ) (out : RowMajor F) : Type 0 where
     pub told : RowMajor F
-    pub are_coefficients : (k : ℕ) → height m ≡ 2 ^ k → AreCoefficients f.ring (λ n. f.value (generator n)) (values_of f m) k f.ring.one (bit_reversal k (values_of f told))
+    pub are_coefficients : (k : ℕ) → height m ≡ 2 ^ k
+        → AreCoefficients f.ring (λ n. f.value (generator n)) (values_of f m) k f.ring.one
+        (bit_reversal k (values_of f told))
     pub told_whole : IsRowMajor told
     pub answered : RowMajor F
     pub answered_whole : IsRowMajor answered
@@ -61,6 +65,7 @@ module _ {F : Type 0} (f : FieldMembers F) (generator : ℕ → F) where
     pub kept : HasShapeOf answered m
     pub over_zeros : out ≡ with_zeros f.zero answered a
 
--- how many products an extension of 2 ^ k rows of w entries by a bits takes, where bound says it of a transform: an inverse transform and one on the larger coset
+-- how many products an extension of 2 ^ k rows of w entries by a bits takes, where bound says it of a transform: an
+-- inverse transform and one on the larger coset
 abbrev pub extension_bound : (ℕ → ℕ → ℕ) → ℕ → ℕ → ℕ → ℕ
 extension_bound bound k a w = bound k w + 2 ^ k * w + (bound (k + a) w + 2 ^ (k + a) * w)

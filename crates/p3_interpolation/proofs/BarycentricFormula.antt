@@ -98,7 +98,10 @@ module _ {A : Type 0} (R : Ring A) {g : ℕ → A} {bits : ℕ} (G : AreRoots R 
       → ((i : ℕ) → i < 2 ^ n → (y : A) × (IsInverse R (minus R (ratio R t x h i) 𝟙) y × (w i ≡ y ⊗ scale)))
       → AreWeights R g n s x w
   weights n s t x h scale w within undo root scaled each c =
-      poly_same R N c (λ j. half ⊗ (T j ⊗ power R t j)) x (λ j l. sym (coefficients-values_at R G (inverse_roots R G) (inverse_undoes R G) n s t undo c j within l) ∙ coefficient j)
+      poly_same R N c (λ j. half ⊗ (T j ⊗ power R t j)) x
+      (λ j l.
+      sym (coefficients-values_at R G (inverse_roots R G) (inverse_undoes R G) n s t undo c j within l)
+      ∙ coefficient j)
       ∙ poly-times R N half (λ j. T j ⊗ power R t j) x
       ∙ ap (λ z. half ⊗ z) (poly-scaled R N T t x ∙ ap (poly R N T) (R.mul_comm t x) ∙ exchanged R N N y h (x ⊗ t))
       ∙ sym (sum-times R N half (λ i. y i ⊗ geometric R N (ratio R t x h i)))
@@ -122,13 +125,15 @@ module _ {A : Type 0} (R : Ring A) {g : ℕ → A} {bits : ℕ} (G : AreRoots R 
       coefficient : (j : ℕ) → coefficients R (inverse_root R g) n t y j ≡ half ⊗ (T j ⊗ power R t j)
       coefficient j =
           coefficients_are R (inverse_root R g) n t y j
-          ∙ ap (λ z. z ⊗ power R t j) (halved-power R n (transform R (inverse_root R g) n y j) ∙ ap (λ z. half ⊗ z) (transform_is R (inverse_root R g) n y j ∙ ap (λ z. poly R N y (power R z j)) is))
+          ∙ ap (λ z. z ⊗ power R t j) (halved-power R n (transform R (inverse_root R g) n y j)
+          ∙ ap (λ z. half ⊗ z) (transform_is R (inverse_root R g) n y j ∙ ap (λ z. poly R N y (power R z j)) is))
           ∙ R.mul_assoc half (T j) (power R t j)
 
       halves : half ⊗ minus R (power R (x ⊗ t) N) 𝟙 ≡ scale
       halves =
           ap (λ z. half ⊗ z) (sym scaled) ∙ sym (R.mul_assoc half (power R (two R) n) scale)
-          ∙ ap (λ z. z ⊗ scale) (R.mul_comm half (power R (two R) n) ∙ power-inverse R (two R) R.half n (Rings.two-mul R R.half ∙ R.half_twice)) ∙ Rings.one-mul R scale
+          ∙ ap (λ z. z ⊗ scale) (R.mul_comm half (power R (two R) n)
+          ∙ power-inverse R (two R) R.half n (Rings.two-mul R R.half ∙ R.half_twice)) ∙ Rings.one-mul R scale
 
       term : (i : ℕ) → i < N → half ⊗ (y i ⊗ geometric R N (ratio R t x h i)) ≡ poly R N c (point R g n s i) ⊗ w i
       term i below =
@@ -141,7 +146,8 @@ module _ {A : Type 0} (R : Ring A) {g : ℕ → A} {bits : ℕ} (G : AreRoots R 
           ∙ ap (λ z. p ⊗ z) (ap (λ z. e ⊗ z) halves ∙ sym inverse.1.1)
 
   -- the same of lists: of the ratios less one, of their inverses, and of the weights
-  pub listed_weights : {S : Type 0} (value : S → A) (z : S) (divisors inverses ws : List S) (n : ℕ) (s t x h scale : A) → n ≤ bits → IsInverse R s t → IsInverse R (g n) h
+  pub listed_weights : {S : Type 0} (value : S → A) (z : S) (divisors inverses ws : List S) (n : ℕ) (s t x h scale : A)
+      → n ≤ bits → IsInverse R s t → IsInverse R (g n) h
       → power R (two R) n ⊗ scale ≡ minus R (power R (x ⊗ t) (2 ^ n)) 𝟙
       → ((i : ℕ) → i < 2 ^ n → value (get_or divisors i z) ≡ minus R (ratio R t x h i) 𝟙)
       → ((i : ℕ) → i < 2 ^ n → IsInverse R (value (get_or divisors i z)) (value (get_or inverses i z)))
@@ -154,7 +160,8 @@ module _ {A : Type 0} (R : Ring A) {g : ℕ → A} {bits : ℕ} (G : AreRoots R 
       (y, (ap (λ u. u ⊗ y) (sym (are i below)) ∙ invert i below, value_at value (λ u. u ⊗ scale) inverses ws i z made same (omega (arith, below, many)))))
 
   -- off the coset each ratio less one has an inverse
-  pub ratio_apart : (n : ℕ) (s t x h : A) (i : ℕ) → n ≤ bits → IsInverse R s t → IsInverse R (g n) h → IsOffCoset R (2 ^ n) s x → IsInvertible R (minus R (ratio R t x h i) 𝟙)
+  pub ratio_apart : (n : ℕ) (s t x h : A) (i : ℕ) → n ≤ bits → IsInverse R s t → IsInverse R (g n) h
+      → IsOffCoset R (2 ^ n) s x → IsInvertible R (minus R (ratio R t x h i) 𝟙)
   ratio_apart n s t x h i within undo root off =
       let N = 2 ^ n in
       let u = ratio R t x h i in

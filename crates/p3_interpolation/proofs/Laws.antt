@@ -26,7 +26,8 @@ module _ {F : Type 0} (f : FieldMembers F) (generator : ℕ → F) where
       ∙ ap (λ n. poly f.ring n (λ i. d.entry i j) x) same.height ∙ sym (value-column f.ring d j x)
 
   -- the values at a point are those of the polynomials whose coefficients the inverse gives
-  pub values_of_inverse : (m c : RowMajor F) (k : ℕ) (s x : f.Element) (ys : List F) → height m ≡ 2 ^ k → IsInterpolation f generator m s c → AreValuesAt f generator m s x ys
+  pub values_of_inverse : (m c : RowMajor F) (k : ℕ) (s x : f.Element) (ys : List F) → height m ≡ 2 ^ k
+      → IsInterpolation f generator m s c → AreValuesAt f generator m s x ys
       → (j : ℕ) → j < m.width → f.value (get_or ys j f.zero) ≡ value f.ring (column (values_of f c) j) x
   values_of_inverse m c k s x ys high inverse at j inside =
       let d = at.coefficients in
@@ -35,7 +36,8 @@ module _ {F : Type 0} (f : FieldMembers F) (generator : ℕ → F) where
 
   module _ {bits : ℕ} (are_roots : AreRoots f.ring bits roots) where
     -- sums of rows by weights are values at the point
-    pub values_by_weights : (m : RowMajor F) (k : ℕ) (s x : f.Element) (w : ℕ → f.Element) (ys : List F) → k ≤ bits → height m ≡ 2 ^ k → IsInvertible f.ring s → AreWeights f.ring roots k s x w
+    pub values_by_weights : (m : RowMajor F) (k : ℕ) (s x : f.Element) (w : ℕ → f.Element) (ys : List F) → k ≤ bits
+        → height m ≡ 2 ^ k → IsInvertible f.ring s → AreWeights f.ring roots k s x w
         → length ys ≡ m.width → ((j : ℕ) → j < m.width → f.value (get_or ys j f.zero) ≡ sum f.ring (2 ^ k) (λ i. f.ring.mul ((values_of f m).entry i j) (w i)))
         → AreValuesAt f generator m s x ys
     values_by_weights m k s x w ys within high inverse are long sums = record {
@@ -59,7 +61,8 @@ module _ {F : Type 0} (f : FieldMembers F) (generator : ℕ → F) where
         here = there_is_one f.ring are_roots (values_of f m) k s inverse.0 within high inverse.1
 
     -- the values at a point of a larger coset are a row of the extension to it
-    pub values_of_extension : (m out : RowMajor F) (k a : ℕ) (s : f.Element) (i : ℕ) (ys : List F) → k ≤ bits → height m ≡ 2 ^ k → i < 2 ^ (k + a) → IsExtension f generator m a s out
+    pub values_of_extension : (m out : RowMajor F) (k a : ℕ) (s : f.Element) (i : ℕ) (ys : List F) → k ≤ bits
+        → height m ≡ 2 ^ k → i < 2 ^ (k + a) → IsExtension f generator m a s out
         → AreValuesAt f generator m f.ring.one (point f.ring roots (k + a) s i) ys
         → (j : ℕ) → j < m.width → f.value (get_or ys j f.zero) ≡ (values_of f out).entry i j
     values_of_extension m out k a s i ys within high below extension at j inside =
@@ -69,4 +72,5 @@ module _ {F : Type 0} (f : FieldMembers F) (generator : ℕ → F) where
         let of_c = at.are_coefficients k high in
         let of_d = extension.are_coefficients k high in
         let same = there_is_no_other f.ring are_roots (values_of f m) k f.ring.one within (f.ring.one, f.ring.mul_one f.ring.one) c d of_c of_d in
-        at.values j inside ∙ one_value c d j x same (omega (arith, inside, of_c.width)) ∙ sym ((extension.extended k high).values i j below (omega (arith, inside, of_d.width)))
+        at.values j inside ∙ one_value c d j x same (omega (arith, inside, of_c.width))
+        ∙ sym ((extension.extended k high).values i j below (omega (arith, inside, of_d.width)))

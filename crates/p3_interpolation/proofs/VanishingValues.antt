@@ -59,9 +59,13 @@ module _ {A : Type 0} (R : Ring A) {g : ℕ → A} {bits : ℕ} (G : AreRoots R 
 -- ---- the fields of this library
 repeated_square-power : {A : Type 0} (R : Ring A) (x : A) (n : ℕ) → repeated_square R x n ≡ power R x (2 ^ n)
 repeated_square-power R x zero = sym (power-one R x)
-repeated_square-power R x (suc n) = let e : 2 ^ suc n ≡ 2 * 2 ^ n = omega arith in repeated_square-power R (R.mul x x) n ∙ sym (power-twice R x (2 ^ n)) ∙ ap (power R x) (sym e)
+repeated_square-power R x (suc n) =
+    let e : 2 ^ suc n ≡ 2 * 2 ^ n = omega arith in
+    repeated_square-power R (R.mul x x) n ∙ sym (power-twice R x (2 ^ n)) ∙ ap (power R x) (sym e)
 
-generator_off : (f : FieldNumbers) (y : Residue f.modulus) → IsInverse (field_ring f) (minus (field_ring f) (repeated_square (field_ring f) f.generator f.two_adicity) (field_ring f).one) y
+generator_off : (f : FieldNumbers) (y : Residue f.modulus)
+    → IsInverse (field_ring f)
+    (minus (field_ring f) (repeated_square (field_ring f) f.generator f.two_adicity) (field_ring f).one) y
     → IsOffCoset (field_ring f) (2 ^ f.two_adicity) (field_ring f).one f.generator
 generator_off f y inverse =
     let R = field_ring f in

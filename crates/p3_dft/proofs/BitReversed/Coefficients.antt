@@ -29,7 +29,8 @@ use Rattle.p3_matrix.proofs.Polynomials.ReversedCoefficients.{coefficients_of_re
 
 module _ {F : Type 0} (f : FieldMembers F) (generator : ℕ → F) where
   -- a single row is its own values on every coset
-  row_on_coset : (m : RowMajor F) (n : ℕ) (s : f.Element) → height m ≡ 1 → height m ≡ 2 ^ n → IsValues f.ring (λ n. f.value (generator n)) (values_of f m) n s (values_of f m)
+  row_on_coset : (m : RowMajor F) (n : ℕ) (s : f.Element) → height m ≡ 1 → height m ≡ 2 ^ n
+      → IsValues f.ring (λ n. f.value (generator n)) (values_of f m) n s (values_of f m)
   row_on_coset m n s one high =
       is_values f.ring (λ n. f.value (generator n)) (values_of f m) n s (values_of f m) high refl
       (λ i j below inside.
@@ -39,7 +40,8 @@ module _ {F : Type 0} (f : FieldMembers F) (generator : ℕ → F) where
       ap column first ∙ sym (ap (λ h. poly f.ring h column x) one ∙ poly-one f.ring column x))
 
   -- what a network made of the entries of m, whose rows lie in bit reversed order, where a program had them in variables of its own
-  pub values_of_parts : (m out : RowMajor F) (before after rest : List F) (w log k : ℕ) → log ≡ k → IsRowMajor m → height m ≡ 2 ^ log → before ≡ m.values → w ≡ m.width
+  pub values_of_parts : (m out : RowMajor F) (before after rest : List F) (w log k : ℕ) → log ≡ k → IsRowMajor m
+      → height m ≡ 2 ^ log → before ≡ m.values → w ≡ m.width
       → length after ≡ length before → out.width ≡ m.width → out.values ≡ take (length m.values) (after ++ rest)
       → AreValuesOfRows f w (2 ^ log) (rev log) (power f.ring (f.value (generator log))) before after
       → IsValues f.ring (λ n. f.value (generator n)) (bit_reversal k (values_of f m)) k f.ring.one (values_of f out)
@@ -52,12 +54,15 @@ module _ {F : Type 0} (f : FieldMembers F) (generator : ℕ → F) where
       (height_of_parts out after m.width (2 ^ log) whole.width full out_width values_is) out_width
       (λ i j below inside.
       ap₂ (λ (xs : List F) (v : ℕ). f.value (get_or xs (i * v + j) f.zero)) values_is (out_width ∙ sym w_is) ∙ entries i j below (omega (arith, w_is))
-      ∙ ap₂ (λ (xs : List F) (v : ℕ). poly f.ring (2 ^ log) (λ q. f.value (get_or xs (rev log q * v + j) f.zero)) (power f.ring (f.value (generator log)) i)) before_is w_is
+      ∙ ap₂ (λ (xs : List F) (v : ℕ). poly f.ring (2 ^ log) (λ q. f.value (get_or xs (rev log q * v + j) f.zero))
+      (power f.ring (f.value (generator log)) i)) before_is w_is
       ∙ ap (λ n. poly f.ring n (λ q. f.value (get_or m.values (rev log q * m.width + j) f.zero)) (power f.ring (f.value (generator log)) i)) (sym high)))
 
   -- the same of the values at the powers of the inverse root, in reversed order, of rows that lie in natural order
-  pub coefficients_of_parts : {bits : ℕ} → AreRoots f.ring bits (λ n. f.value (generator n)) → (m out : RowMajor F) (before after rest : List F) (w log k : ℕ) → log ≤ bits → log ≡ k
-      → IsRowMajor m → height m ≡ 2 ^ log → before ≡ m.values → w ≡ m.width → length after ≡ length before → out.width ≡ m.width → out.values ≡ take (length m.values) (after ++ rest)
+  pub coefficients_of_parts : {bits : ℕ} → AreRoots f.ring bits (λ n. f.value (generator n))
+      → (m out : RowMajor F) (before after rest : List F) (w log k : ℕ) → log ≤ bits → log ≡ k
+      → IsRowMajor m → height m ≡ 2 ^ log → before ≡ m.values → w ≡ m.width → length after ≡ length before → out.width
+      ≡ m.width → out.values ≡ take (length m.values) (after ++ rest)
       → AreValuesOfRows f w (2 ^ log) (λ q. q) (λ r. power f.ring (inverse_root f.ring (λ n. f.value (generator n)) log) (rev log r)) before after
       → (c : Matrix f.Element) → IsQuotient f.ring (2 ^ k) (bit_reversal k (values_of f out)) c
       → AreCoefficients f.ring (λ n. f.value (generator n)) (values_of f m) k f.ring.one c
@@ -75,23 +80,28 @@ module _ {F : Type 0} (f : FieldMembers F) (generator : ℕ → F) where
       (subst (λ (n : ℕ). IsQuotient f.ring (2 ^ n) (bit_reversal n (values_of f out)) c) (sym same) quotient))
 
   -- coefficients are the interpolation
-  pub interpolation_of_coefficients : {bits : ℕ} → AreRoots f.ring bits (λ n. f.value (generator n)) → (m c : RowMajor F) (log : ℕ) → log ≤ bits → height m ≡ 2 ^ log
+  pub interpolation_of_coefficients : {bits : ℕ} → AreRoots f.ring bits (λ n. f.value (generator n))
+      → (m c : RowMajor F) (log : ℕ) → log ≤ bits → height m ≡ 2 ^ log
       → AreCoefficients f.ring (λ n. f.value (generator n)) (values_of f m) log f.ring.one (values_of f c) → IsInterpolation f generator m f.ring.one c
   interpolation_of_coefficients {bits} roots m c log within high are = record {
     holds = coefficients;
     only = λ k e d other.
-        there_is_no_other f.ring roots (values_of f m) k f.ring.one (subst (λ (n : ℕ). n ≤ bits) (log_same log k (sym high ∙ e)) within) (f.ring.one, f.ring.mul_one f.ring.one)
+        there_is_no_other f.ring roots (values_of f m) k f.ring.one
+        (subst (λ (n : ℕ). n ≤ bits) (log_same log k (sym high ∙ e)) within) (f.ring.one, f.ring.mul_one f.ring.one)
         d (values_of f c) other (coefficients k e);
   }
     where
       coefficients : (k : ℕ) → height m ≡ 2 ^ k → AreCoefficients f.ring (λ n. f.value (generator n)) (values_of f m) k f.ring.one (values_of f c)
       coefficients k e =
-          subst (λ (n : ℕ). AreCoefficients f.ring (λ i. f.value (generator i)) (values_of f m) n f.ring.one (values_of f c)) (log_same log k (sym high ∙ e)) are
+          subst (λ (n : ℕ). AreCoefficients f.ring (λ i. f.value (generator i)) (values_of f m) n f.ring.one
+          (values_of f c)) (log_same log k (sym high ∙ e)) are
 
   -- a single row has its own coefficients
-  pub interpolation_of_row : {bits : ℕ} → AreRoots f.ring bits (λ n. f.value (generator n)) → (m : RowMajor F) → FitsDft bits (height m) m.width → height m ≡ 1 → IsInterpolation f generator m f.ring.one m
+  pub interpolation_of_row : {bits : ℕ} → AreRoots f.ring bits (λ n. f.value (generator n)) → (m : RowMajor F)
+      → FitsDft bits (height m) m.width → height m ≡ 1 → IsInterpolation f generator m f.ring.one m
   interpolation_of_row roots m fits one =
-      interpolation_of_coefficients roots m m fits.log fits.within fits.height (record { height = refl; width = refl; values = transform_of_row f generator m one fits.log fits.height })
+      interpolation_of_coefficients roots m m fits.log fits.within fits.height
+      (record { height = refl; width = refl; values = transform_of_row f generator m one fits.log fits.height })
 
   -- the extension by what has the coefficients' values on the larger coset
   pub extension_of_coefficients : (m out : RowMajor F) (c : Matrix f.Element) (a log : ℕ) (s : f.Element) → height m ≡ 2 ^ log
@@ -99,7 +109,9 @@ module _ {F : Type 0} (f : FieldMembers F) (generator : ℕ → F) where
       → IsValues f.ring (λ n. f.value (generator n)) c (log + a) s (values_of f out) → IsExtension f generator m a s out
   extension_of_coefficients m out c a log s high are values = record {
     coefficients = c;
-    are_coefficients = λ k e. subst (λ (n : ℕ). AreCoefficients f.ring (λ i. f.value (generator i)) (values_of f m) n f.ring.one c) (log_same log k (sym high ∙ e)) are;
+    are_coefficients =
+        λ k e. subst (λ (n : ℕ). AreCoefficients f.ring (λ i. f.value (generator i)) (values_of f m) n f.ring.one c)
+        (log_same log k (sym high ∙ e)) are;
     extended = λ k e. subst (λ (n : ℕ). IsValues f.ring (λ i. f.value (generator i)) c (n + a) s (values_of f out)) (log_same log k (sym high ∙ e)) values;
   }
 
@@ -113,7 +125,8 @@ module _ {F : Type 0} (f : FieldMembers F) (generator : ℕ → F) where
 
   -- and so is what a transform answers of it
   pub extension_of_told_row : (may_answer : RowMajor F → Layout → RowMajor F → Type 0) (m answered : RowMajor F) (a : ℕ) (s : f.Element) → height m ≡ 1 → a ≡ 0
-      → IsRowMajor m → IsRowMajor answered → may_answer m BitReversed answered → height answered ≡ height m → AreTransformedValues f generator may_answer BitReversed m a s (values_of f answered)
+      → IsRowMajor m → IsRowMajor answered → may_answer m BitReversed answered → height answered
+      ≡ height m → AreTransformedValues f generator may_answer BitReversed m a s (values_of f answered)
   extension_of_told_row may_answer m answered a s one none told_is answered_is called tall = record {
     coefficients = values_of f m;
     are_coefficients = λ k e. record { height = refl; width = refl; values = transform_of_row f generator m one k e };
@@ -129,26 +142,38 @@ module _ {F : Type 0} (f : FieldMembers F) (generator : ℕ → F) where
   }
 
   -- coefficients whose rows were put into bit reversed order, and from there times the powers of the shift and one
-  pub extension_of_reversed : (m r out : RowMajor F) (one : F) (a log : ℕ) (s : f.Element) → f.value one ≡ f.ring.one → height m ≡ 2 ^ log → ((d : F) → Same (matrix d r) (bit_reversal log (matrix d m)))
-      → IsValues f.ring (λ n. f.value (generator n)) (image (λ x. f.ring.mul x (f.value one)) (coset_shift f.ring s (bit_reversal log (values_of f r)))) (log + a) f.ring.one (values_of f out)
+  pub extension_of_reversed : (m r out : RowMajor F) (one : F) (a log : ℕ) (s : f.Element) → f.value one ≡ f.ring.one
+      → height m ≡ 2 ^ log → ((d : F) → Same (matrix d r) (bit_reversal log (matrix d m)))
+      → IsValues f.ring (λ n. f.value (generator n))
+      (image (λ x. f.ring.mul x (f.value one)) (coset_shift f.ring s (bit_reversal log (values_of f r)))) (log + a)
+      f.ring.one (values_of f out)
       → IsExtendedTransform f generator m a s out
   extension_of_reversed m r out one a log s is high rows values k e =
       let scaled = image (λ x. f.ring.mul x (f.value one)) (coset_shift f.ring s (bit_reversal log (values_of f r))) in
-      let shifted = shifted_by_one f.ring (f.value one) s (bit_reversal log (values_of f r)) scaled is (record { height = refl; width = refl; alike = λ i j p q. refl }) in
+      let shifted =
+      shifted_by_one f.ring (f.value one) s (bit_reversal log (values_of f r)) scaled is
+      (record { height = refl; width = refl; alike = λ i j p q. refl }) in
       let on_coset = coset_values f.ring (λ n. f.value (generator n)) (bit_reversal log (values_of f r)) scaled (log + a) s (values_of f out) shifted values in
-      let back = reversed_back log (values_of f r) (values_of f m) high (mapped_same f.value (matrix f.zero r) (bit_reversal log (matrix f.zero m)) (rows f.zero)) in
+      let back =
+      reversed_back log (values_of f r) (values_of f m) high
+      (mapped_same f.value (matrix f.zero r) (bit_reversal log (matrix f.zero m)) (rows f.zero)) in
       subst (λ (n : ℕ). IsValues f.ring (λ i. f.value (generator i)) (values_of f m) (n + a) s (values_of f out)) (log_same log k (sym high ∙ e))
-      (coefficients_same f.ring (λ n. f.value (generator n)) (bit_reversal log (values_of f r)) (values_of f m) (log + a) s (values_of f out) (same_sym (values_of f m) (bit_reversal log (values_of f r)) back) on_coset)
+      (coefficients_same f.ring (λ n. f.value (generator n)) (bit_reversal log (values_of f r)) (values_of f m)
+      (log + a) s (values_of f out) (same_sym (values_of f m) (bit_reversal log (values_of f r)) back) on_coset)
 
   -- values of what a transform, told the coefficients in bit reversed order, answered in that order
-  pub values_of_answered : (may_answer : RowMajor F → Layout → RowMajor F → Type 0) (m told answered : RowMajor F) (a log : ℕ) (s : f.Element) (out : Matrix f.Element) → height m ≡ 2 ^ log
+  pub values_of_answered : (may_answer : RowMajor F → Layout → RowMajor F → Type 0) (m told answered : RowMajor F)
+      (a log : ℕ) (s : f.Element) (out : Matrix f.Element)
+      → height m ≡ 2 ^ log
       → AreCoefficients f.ring (λ n. f.value (generator n)) (values_of f m) log f.ring.one (bit_reversal log (values_of f told))
       → IsRowMajor told → IsRowMajor answered → may_answer told BitReversed answered → height answered ≡ height m
       → IsValues f.ring (λ n. f.value (generator n)) (bit_reversal log (values_of f answered)) (log + a) s out
       → AreTransformedValues f generator may_answer BitReversed m a s out
   values_of_answered may_answer m told answered a log s out high are told_is answered_is called tall values = record {
     coefficients = bit_reversal log (values_of f told);
-    are_coefficients = λ k e. subst (λ (n : ℕ). AreCoefficients f.ring (λ i. f.value (generator i)) (values_of f m) n f.ring.one (bit_reversal log (values_of f told))) (one_log k e) are;
+    are_coefficients =
+        λ k e. subst (λ (n : ℕ). AreCoefficients f.ring (λ i. f.value (generator i)) (values_of f m) n f.ring.one
+        (bit_reversal log (values_of f told))) (one_log k e) are;
     told = told;
     told_whole = told_is;
     told_in_layout = λ k e. back told (are.height ∙ high) k e;
@@ -157,7 +182,9 @@ module _ {F : Type 0} (f : FieldMembers F) (generator : ℕ → F) where
     called = called;
     changed = bit_reversal log (values_of f answered);
     answered_in_layout = λ k e. back answered (tall ∙ high) k e;
-    extended = λ k e. subst (λ (n : ℕ). IsValues f.ring (λ i. f.value (generator i)) (bit_reversal log (values_of f answered)) (n + a) s out) (one_log k e) values;
+    extended =
+        λ k e. subst (λ (n : ℕ). IsValues f.ring (λ i. f.value (generator i)) (bit_reversal log (values_of f answered))
+        (n + a) s out) (one_log k e) values;
   }
     where
       one_log : (k : ℕ) → height m ≡ 2 ^ k → log ≡ k
@@ -169,9 +196,11 @@ module _ {F : Type 0} (f : FieldMembers F) (generator : ℕ → F) where
           (same_sym (bit_reversal log (bit_reversal log (values_of f x))) (values_of f x) (reversed_twice log (values_of f x) of_log))
 
 -- two networks, and two products for each entry of the smaller matrix, are within the bound of an extension
-pub within_extension : (bound : ℕ → ℕ → ℕ) (k a w before after : ℕ) → after ≤ before + (bound k w + bound (k + a) w + 2 * (2 ^ k * w)) → after ≤ before + extension_bound bound k a w
+pub within_extension : (bound : ℕ → ℕ → ℕ) (k a w before after : ℕ)
+    → after ≤ before + (bound k w + bound (k + a) w + 2 * (2 ^ k * w)) → after ≤ before + extension_bound bound k a w
 within_extension bound k a w before after made = let rise = entries_rise k a w in omega (arith, made, rise)
 
 -- and so is what was made when memory for the second was refused
-pub first_within_extension : (bound : ℕ → ℕ → ℕ) (k a w before after : ℕ) → after ≤ before + bound k w + 2 * (2 ^ k * w) → after ≤ before + extension_bound bound k a w
+pub first_within_extension : (bound : ℕ → ℕ → ℕ) (k a w before after : ℕ) → after ≤ before + bound k w + 2 * (2 ^ k * w)
+    → after ≤ before + extension_bound bound k a w
 first_within_extension bound k a w before after made = let rise = entries_rise k a w in omega (arith, made, rise)

@@ -1,6 +1,7 @@
 -- An engine after one call and then another.
 use Rattle.std.specs.Prelude.{⊤}
-use Rattle.std.proofs.Common.{ℕ, ◌≡◌, ◌+◌, ◌*◌, ◌^◌, ◌≤◌, Result, Ok, Err, IsOk, IsErr, IfErr, IsErrAnd, refl, ap, ap₂, ◌∙◌, add-one, arith, rules, subst, le-add_right, le_refl, pow_pos, suc-mul, OnOk}
+use Rattle.std.proofs.Common.{ℕ, ◌≡◌, ◌+◌, ◌*◌, ◌^◌, ◌≤◌, Result, Ok, Err, IsOk, IsErr, IfErr, IsErrAnd, refl, ap, ap₂}
+use Rattle.std.proofs.Common.{◌∙◌, add-one, arith, rules, subst, le-add_right, le_refl, pow_pos, suc-mul, OnOk}
 use Rattle.p3_matrix.specs.declared.error.DftError.{DftError}
 use Rattle.p3_matrix.specs.Room.{IsWithin, IsWithinEither}
 use Rattle.p3_matrix.proofs.Rooms.{either_of, if_first}
@@ -40,13 +41,27 @@ module _ {E F : Type 0} (facts : EngineFacts E F) where
   }
 
   -- memory was refused before a product was made
-  pub after_error : {bytes : ℕ} {A : Type 0} {h entries tables : ℕ} {known : ℕ → Type 0} {p : ℕ → ℕ} (a b : E) (r : Result A DftError) → IsErr r → IsLater facts a b → facts.products_made b ≡ facts.products_made a
-      → facts.tables b ≤ facts.tables a + tables → IfErr r (IsWithinEither bytes entries facts.table_bytes (facts.tables b)) → IsAfter facts bytes a b r h known p entries tables
-  after_error a b r none later same kept room = record { later = later; prepared = λ ok. absurd (no_answer r none ok); cost = λ k high. omega (arith, same); tables = kept; refused = room }
+  pub after_error : {bytes : ℕ} {A : Type 0} {h entries tables : ℕ} {known : ℕ → Type 0} {p : ℕ → ℕ} (a b : E) (r : Result A DftError)
+      → IsErr r → IsLater facts a b → facts.products_made b ≡ facts.products_made a
+      → facts.tables b
+      ≤ facts.tables a + tables → IfErr r (IsWithinEither bytes entries facts.table_bytes (facts.tables b))
+      → IsAfter facts bytes a b r h known p entries tables
+  after_error a b r none later same kept room = record {
+    later = later;
+    prepared = λ ok. absurd (no_answer r none ok);
+    cost = λ k high. omega (arith, same);
+    tables = kept;
+    refused = room;
+  }
 
   -- memory was refused to what follows a part of a call, which made no more products than all of it may
-  pub after_part : {bytes other : ℕ} {A B : Type 0} {h few entries few_tables tables : ℕ} {known more_known : ℕ → Type 0} {p q : ℕ → ℕ} (a b : E) (s : Result B DftError) (r : Result A DftError) → IsErr r → ((k : ℕ) → p k ≤ q k)
-      → few_tables ≤ tables → IfErr r (IsWithinEither bytes entries facts.table_bytes (facts.tables b)) → IsAfter facts other a b s h known p few few_tables → IsAfter facts bytes a b r h more_known q entries tables
+  pub after_part : {bytes other : ℕ} {A B : Type 0} {h few entries few_tables tables : ℕ}
+      {known more_known : ℕ → Type 0} {p q : ℕ → ℕ} (a b : E) (s : Result B DftError) (r : Result A DftError)
+      → IsErr r → ((k : ℕ) → p k ≤ q k)
+      → few_tables
+      ≤ tables → IfErr r (IsWithinEither bytes entries facts.table_bytes (facts.tables b))
+      → IsAfter facts other a b s h known p few few_tables
+      → IsAfter facts bytes a b r h more_known q entries tables
   after_part a b s r none fewer more_tables room call = record {
     later = call.later;
     prepared = λ ok. absurd (no_answer r none ok);
@@ -56,27 +71,45 @@ module _ {E F : Type 0} (facts : EngineFacts E F) where
   }
 
   -- memory was refused to a part of a call, and `?` hands the error on
-  pub part_refused : {bytes : ℕ} {A B : Type 0} {h few entries few_tables tables : ℕ} {known more_known : ℕ → Type 0} {p q : ℕ → ℕ} (a b : E) (e : DftError) (r : Result A DftError) → IsErr r × IsErrAnd r (λ y. y ≡ e) → ((k : ℕ) → p k ≤ q k)
-      → few ≤ entries → few_tables ≤ tables → IsAfter facts bytes {A = B} a b (Err e) h known p few few_tables → IsAfter facts bytes a b r h more_known q entries tables
+  pub part_refused : {bytes : ℕ} {A B : Type 0} {h few entries few_tables tables : ℕ} {known more_known : ℕ → Type 0}
+      {p q : ℕ → ℕ} (a b : E) (e : DftError) (r : Result A DftError)
+      → IsErr r × IsErrAnd r (λ y. y ≡ e) → ((k : ℕ) → p k ≤ q k)
+      → few ≤ entries → few_tables
+      ≤ tables → IsAfter facts bytes {A = B} a b (Err e) h known p few few_tables
+      → IsAfter facts bytes a b r h more_known q entries tables
   part_refused {bytes = bytes} {few = few} {entries = entries} a b e r told fewer smaller more_tables call =
-      after_part a b (Err e) r told.0 fewer more_tables (either_of bytes bytes few entries (le_refl _) smaller facts.table_bytes (facts.tables b) (facts.tables b) (le_refl _) r e told call.refused) call
+      after_part a b (Err e) r told.0 fewer more_tables (either_of bytes bytes few entries (le_refl _) smaller
+      facts.table_bytes (facts.tables b) (facts.tables b) (le_refl _) r e told call.refused) call
 
   -- the same where the bounds are those of the whole
-  pub after_refusal : {bytes : ℕ} {A B : Type 0} {h entries tables : ℕ} {known : ℕ → Type 0} {p : ℕ → ℕ} (a b : E) (e : DftError) (r : Result A DftError) → IsErr r × IsErrAnd r (λ y. y ≡ e)
+  pub after_refusal : {bytes : ℕ} {A B : Type 0} {h entries tables : ℕ} {known : ℕ → Type 0} {p : ℕ → ℕ} (a b : E)
+      (e : DftError) (r : Result A DftError)
+      → IsErr r × IsErrAnd r (λ y. y ≡ e)
       → IsAfter facts bytes {A = B} a b (Err e) h known p entries tables → IsAfter facts bytes a b r h known p entries tables
   after_refusal a b e r told call = part_refused a b e r told (λ k. le_refl _) (le_refl _) (le_refl _) call
 
   -- the answer, as it is stored
-  pub as_stored : {bytes : ℕ} {A B : Type 0} {v : A} {w : B} {h entries tables : ℕ} {known : ℕ → Type 0} {p : ℕ → ℕ} (a b : E) → IsAfter facts bytes a b (Ok v) h known p entries tables → IsAfter facts bytes a b (Ok w) h known p entries tables
+  pub as_stored : {bytes : ℕ} {A B : Type 0} {v : A} {w : B} {h entries tables : ℕ} {known : ℕ → Type 0} {p : ℕ → ℕ} (a b : E)
+      → IsAfter facts bytes a b (Ok v) h known p entries tables
+      → IsAfter facts bytes a b (Ok w) h known p entries tables
   as_stored a b call = record { later = call.later; prepared = λ yes. call.prepared refl; cost = call.cost; tables = call.tables; refused = tt }
 
   -- where less is answered
-  pub where_answered : {bytes other : ℕ} {A B : Type 0} {h entries tables : ℕ} {known : ℕ → Type 0} {p : ℕ → ℕ} (a b : E) (s : Result B DftError) (r : Result A DftError) → (IsOk r → IsOk s) → IfErr r (IsWithinEither bytes entries facts.table_bytes (facts.tables b))
+  pub where_answered : {bytes other : ℕ} {A B : Type 0} {h entries tables : ℕ} {known : ℕ → Type 0} {p : ℕ → ℕ}
+      (a b : E) (s : Result B DftError) (r : Result A DftError)
+      → (IsOk r → IsOk s) → IfErr r (IsWithinEither bytes entries facts.table_bytes (facts.tables b))
       → IsAfter facts other a b s h known p entries tables → IsAfter facts bytes a b r h known p entries tables
-  where_answered a b s r there room call = record { later = call.later; prepared = λ yes. call.prepared (there yes); cost = call.cost; tables = call.tables; refused = room }
+  where_answered a b s r there room call = record {
+    later = call.later;
+    prepared = λ yes. call.prepared (there yes);
+    cost = call.cost;
+    tables = call.tables;
+    refused = room;
+  }
 
   -- products, at most one an entry, and then a transform of a matrix of the same shape
-  pub transform_after : {bytes : ℕ} {A T S : Type 0} (m : RowMajor T) (n : RowMajor S) (a b c : E) (r : Result A DftError) (products : ℕ) → HasShapeOf n m → products ≤ height m * m.width
+  pub transform_after : {bytes : ℕ} {A T S : Type 0} (m : RowMajor T) (n : RowMajor S) (a b c : E) (r : Result A DftError) (products : ℕ)
+      → HasShapeOf n m → products ≤ height m * m.width
       → HasProductsMore facts a b products → AfterDft facts bytes b c r n 0 → AfterDft facts bytes a c r m 1
   transform_after {bytes = bytes} m n a b c r products (tall, wide) most more call = record {
     later = later_still a b c (later_by_products a b products more) call.later;
@@ -91,7 +124,9 @@ module _ {E F : Type 0} (facts : EngineFacts E F) where
   }
 
   -- a transform, and then products, at most one for each entry of a matrix of the same shape
-  pub products_after : {bytes : ℕ} {A B T S : Type 0} {v : B} (first : ℕ) (m : RowMajor T) (n : RowMajor S) (a b c : E) (w : A) (products : ℕ) → HasShapeOf n m → products ≤ height n * n.width
+  pub products_after : {bytes : ℕ} {A B T S : Type 0} {v : B} (first : ℕ) (m : RowMajor T) (n : RowMajor S) (a b c : E)
+      (w : A) (products : ℕ)
+      → HasShapeOf n m → products ≤ height n * n.width
       → AfterDft facts bytes a b (Ok v) m first → HasProductsMore facts b c products → AfterDft facts bytes a c (Ok w) m (first + 1)
   products_after first m n a b c w products (tall, wide) most call more = record {
     later = later_still a b c call.later (later_by_products b c products more);
@@ -106,7 +141,9 @@ module _ {E F : Type 0} (facts : EngineFacts E F) where
   }
 
   -- products, at most one an entry, and then a transform of 2 ^ bits times as many rows
-  pub extended_after : {bytes : ℕ} {A T S : Type 0} (m : RowMajor T) (grown : RowMajor S) (bits : ℕ) (a b c : E) (r : Result A DftError) (products log : ℕ) → height m ≡ 2 ^ log
+  pub extended_after : {bytes : ℕ} {A T S : Type 0} (m : RowMajor T) (grown : RowMajor S) (bits : ℕ) (a b c : E)
+      (r : Result A DftError) (products log : ℕ)
+      → height m ≡ 2 ^ log
       → ((k : ℕ) → height m ≡ 2 ^ k → height grown ≡ 2 ^ (k + bits)) → grown.width ≡ m.width → products ≤ height m * m.width
       → HasProductsMore facts a b products → AfterDft facts bytes b c r grown 0 → AfterLdeOfCoefficients facts bytes a c r m bits
   extended_after {bytes = bytes} m grown bits a b c r products log whole tall wide most more call = record {
@@ -114,16 +151,22 @@ module _ {E F : Type 0} (facts : EngineFacts E F) where
     prepared = λ done k high. call.prepared done (k + bits) (tall k high);
     cost = λ k high.
         let made = call.cost (k + bits) (tall k high) in
-        let same : facts.transform_products (k + bits) grown.width ≡ facts.transform_products (k + bits) m.width = ap (facts.transform_products (k + bits)) wide in
+        let same : facts.transform_products (k + bits) grown.width ≡ facts.transform_products (k + bits) m.width =
+        ap (facts.transform_products (k + bits)) wide in
         let entries : height m * m.width ≡ 2 ^ k * m.width = ap (λ h. h * m.width) high in
         omega (arith, more.counter, made, same, entries, most);
     tables = let kept = call.tables in omega (arith, more.same_tables, kept);
-    refused = subst (λ (room : ℕ). IfErr r (IsWithinEither bytes room facts.table_bytes (facts.tables c))) (extended_entries log bits whole (tall log whole) wide) call.refused;
+    refused =
+        subst (λ (room : ℕ). IfErr r (IsWithinEither bytes room facts.table_bytes (facts.tables c)))
+        (extended_entries log bits whole (tall log whole) wide) call.refused;
   }
 
   -- those products alone, where memory was refused to what follows
-  pub refused_after_products : {bytes : ℕ} {A T : Type 0} {known : ℕ → Type 0} {p : ℕ → ℕ} {entries tables : ℕ} (m : RowMajor T) (a b : E) (r : Result A DftError) (products : ℕ) → IsErr r → products ≤ height m * m.width
-      → ((k : ℕ) → 2 ^ k * m.width ≤ p k) → IfErr r (IsWithinEither bytes entries facts.table_bytes (facts.tables b)) → HasProductsMore facts a b products → IsAfter facts bytes a b r (height m) known p entries tables
+  pub refused_after_products : {bytes : ℕ} {A T : Type 0} {known : ℕ → Type 0} {p : ℕ → ℕ} {entries tables : ℕ}
+      (m : RowMajor T) (a b : E) (r : Result A DftError) (products : ℕ)
+      → IsErr r → products ≤ height m * m.width
+      → ((k : ℕ) → 2 ^ k * m.width ≤ p k) → IfErr r (IsWithinEither bytes entries facts.table_bytes (facts.tables b)) →
+      HasProductsMore facts a b products → IsAfter facts bytes a b r (height m) known p entries tables
   refused_after_products m a b r products none most fewer room more = record {
     later = later_by_products a b products more;
     prepared = λ ok. absurd (no_answer r none ok);
@@ -133,24 +176,33 @@ module _ {E F : Type 0} (facts : EngineFacts E F) where
   }
 
   -- an inverse, and an extension of the coefficients by so many bits
-  pub parts_after : {bytes : ℕ} {A B T S : Type 0} {v : B} (m : RowMajor T) (n : RowMajor S) (bits : ℕ) (p : ℕ → ℕ) (a b c : E) (r : Result A DftError) → HasShapeOf n m
+  pub parts_after : {bytes : ℕ} {A B T S : Type 0} {v : B} (m : RowMajor T) (n : RowMajor S) (bits : ℕ) (p : ℕ → ℕ)
+      (a b c : E) (r : Result A DftError)
+      → HasShapeOf n m
       → ((k : ℕ) → facts.transform_products k m.width + 2 ^ k * m.width + (facts.transform_products (k + bits) m.width + 2 ^ k * m.width) ≤ p k)
       → AfterDft facts bytes a b (Ok v) m 1 → AfterLdeOfCoefficients facts bytes b c r n bits
-      → IsAfter facts bytes a c r (height m) (λ k. facts.IsLeftPrepared c k × facts.IsLeftPrepared c (k + bits)) p (height m * m.width * 2 ^ bits) (2 ^ bits + 1)
+      → IsAfter facts bytes a c r (height m) (λ k. facts.IsLeftPrepared c k × facts.IsLeftPrepared c (k + bits)) p
+      (height m * m.width * 2 ^ bits) (2 ^ bits + 1)
   parts_after {bytes = bytes} m n bits p a b c r (tall, wide) most one other = record {
     later = later_still a b c one.later other.later;
     prepared = λ done k high. (other.later.keeps_prepared k (one.prepared refl k high), other.prepared done k (tall ∙ high));
     cost = λ k high.
         let before = one.cost k high in
         let after = other.cost k (tall ∙ high) in
-        let same : facts.transform_products (k + bits) n.width + 2 ^ k * n.width ≡ facts.transform_products (k + bits) m.width + 2 ^ k * m.width = ap (λ w. facts.transform_products (k + bits) w + 2 ^ k * w) wide in
+        let same : facts.transform_products (k + bits) n.width + 2 ^ k * n.width
+        ≡ facts.transform_products (k + bits) m.width + 2 ^ k * m.width =
+        ap (λ w. facts.transform_products (k + bits) w + 2 ^ k * w) wide in
         omega (arith, before, after, same, most k);
     tables = let first = one.tables in let second = other.tables in omega (arith, first, second, pow_pos bits);
-    refused = subst (λ (room : ℕ). IfErr r (IsWithinEither bytes room facts.table_bytes (facts.tables c))) (ap₂ (λ (h w : ℕ). h * w * 2 ^ bits) tall wide) other.refused;
+    refused =
+        subst (λ (room : ℕ). IfErr r (IsWithinEither bytes room facts.table_bytes (facts.tables c)))
+        (ap₂ (λ (h w : ℕ). h * w * 2 ^ bits) tall wide) other.refused;
   }
 
   -- what came before a call made no product
-  pub after_later : {bytes : ℕ} {A : Type 0} {h entries tables : ℕ} {known : ℕ → Type 0} {p : ℕ → ℕ} (a b c : E) (r : Result A DftError) → IsLater facts a b → facts.products_made b ≡ facts.products_made a → facts.tables b ≡ facts.tables a
+  pub after_later : {bytes : ℕ} {A : Type 0} {h entries tables : ℕ} {known : ℕ → Type 0} {p : ℕ → ℕ} (a b c : E)
+      (r : Result A DftError)
+      → IsLater facts a b → facts.products_made b ≡ facts.products_made a → facts.tables b ≡ facts.tables a
       → IsAfter facts bytes b c r h known p entries tables → IsAfter facts bytes a c r h known p entries tables
   after_later a b c r first same kept call = record {
     later = later_still a b c first call.later;
@@ -161,12 +213,18 @@ module _ {E F : Type 0} (facts : EngineFacts E F) where
   }
 
   -- nothing was done
-  pub after_none : {bytes : ℕ} {A : Type 0} {v : A} {h entries tables : ℕ} {known : ℕ → Type 0} {p : ℕ → ℕ} (e : E) (now : IsOk {E = DftError} (Ok v) → AtLog h known) → IsAfter facts bytes e e (Ok v) h known p entries tables
+  pub after_none : {bytes : ℕ} {A : Type 0} {v : A} {h entries tables : ℕ} {known : ℕ → Type 0} {p : ℕ → ℕ} (e : E)
+      (now : IsOk {E = DftError} (Ok v) → AtLog h known)
+      → IsAfter facts bytes e e (Ok v) h known p entries tables
   after_none e now = record { later = later_same e; prepared = now; cost = λ k high. le-add_right _ _; tables = le-add_right _ _; refused = tt }
 
 -- products were made by an engine that shows nothing but their number, and knows of every height what it always did
-pub after_counting : {bytes : ℕ} {A F : Type 0} {t : ℕ → ℕ → ℕ} {r : Result A DftError} {h entries tables : ℕ} {known : ℕ → Type 0} {p : ℕ → ℕ} (before inside after : ℕ) → inside ≡ before → inside ≤ after → ((k : ℕ) → known k)
-    → AtLog h (λ k. after ≤ before + p k) → IfErr r (IsWithin bytes entries) → IsAfter (plain_facts {F = F} (λ _ k. k ≡ 0) (λ _ _ _. ⊤) (λ _ _. ⊤) t (λ e. e)) bytes before after r h known p entries tables
+pub after_counting : {bytes : ℕ} {A F : Type 0} {t : ℕ → ℕ → ℕ} {r : Result A DftError} {h entries tables : ℕ}
+    {known : ℕ → Type 0} {p : ℕ → ℕ} (before inside after : ℕ)
+    → inside ≡ before → inside ≤ after → ((k : ℕ) → known k)
+    → AtLog h (λ k. after ≤ before + p k) → IfErr r (IsWithin bytes entries) → IsAfter
+    (plain_facts {F = F} (λ _ k. k ≡ 0) (λ _ _ _. ⊤) (λ _ _. ⊤) t (λ e. e)) bytes before after r h known p entries
+    tables
 after_counting {bytes = bytes} {r = r} {entries = entries} before inside after is grows known cost room = record {
   later = record { keeps = λ k was. was; keeps_cosets = λ k s was. was; keeps_prepared = λ k was. was; grows = omega (arith, is, grows) };
   prepared = λ done k high. known k;

@@ -1,5 +1,6 @@
 -- Lists of jobs that are answered one after another.
-use Rattle.std.proofs.Common.{◌≡◌, ℕ, ◌+◌, ◌*◌, ◌^◌, ◌≤◌, List, [], ◌∷◌, ◌++◌, length, take, get_or, refl, sym, ap, ◌∙◌, subst, append_assoc, length-append, arith, Result, Ok, Err, OnErr, append-nil}
+use Rattle.std.proofs.Common.{◌≡◌, ℕ, ◌+◌, ◌*◌, ◌^◌, ◌≤◌, List, [], ◌∷◌, ◌++◌, length, take, get_or, refl, sym, ap, ◌∙◌}
+use Rattle.std.proofs.Common.{subst, append_assoc, length-append, arith, Result, Ok, Err, OnErr, append-nil}
 use Rattle.std.proofs.Math.Seq.{get_or-append_seam, take-append_seam}
 use Rattle.std.proofs.lemmas.List.Elements.{All-rest}
 use Rattle.std.proofs.lemmas.List.Sums.{sum_by_push}
@@ -56,13 +57,33 @@ module _ {E F : Type 0} (facts : EngineFacts E F) where
 
   -- a job that can be run has a cost
   cost_of : (f : FieldMembers F) (bits : ℕ) (job : Job F) → CanRun f bits job → (n : ℕ) × IsCost facts job n
-  cost_of f bits (Dft m) fits = (facts.transform_products fits.log m.width, λ k high. ap (λ l. facts.transform_products l m.width) (log_same fits.log k (sym fits.height ∙ high)))
-  cost_of f bits (CosetDft m s) fits = (facts.transform_products fits.log m.width + 2 ^ fits.log * m.width, λ k high. ap (λ l. facts.transform_products l m.width + 2 ^ l * m.width) (log_same fits.log k (sym fits.height ∙ high)))
-  cost_of f bits (Idft m) fits = (facts.transform_products fits.log m.width + 2 ^ fits.log * m.width, λ k high. ap (λ l. facts.transform_products l m.width + 2 ^ l * m.width) (log_same fits.log k (sym fits.height ∙ high)))
-  cost_of f bits (CosetIdft m s) (fits, invertible) =
-      (facts.transform_products fits.log m.width + 2 * (2 ^ fits.log * m.width), λ k high. ap (λ l. facts.transform_products l m.width + 2 * (2 ^ l * m.width)) (log_same fits.log k (sym fits.height ∙ high)))
-  cost_of f bits (Lde m a) fits = (facts.extension_products fits.log a m.width, λ k high. ap (λ l. facts.extension_products l a m.width) (log_same fits.log k (sym fits.height ∙ high)))
-  cost_of f bits (CosetLde m a s) fits = (facts.extension_products fits.log a m.width, λ k high. ap (λ l. facts.extension_products l a m.width) (log_same fits.log k (sym fits.height ∙ high)))
+  cost_of f bits (Dft m) fits = (
+    facts.transform_products fits.log m.width,
+    λ k high. ap (λ l. facts.transform_products l m.width) (log_same fits.log k (sym fits.height ∙ high)),
+  )
+  cost_of f bits (CosetDft m s) fits = (
+    facts.transform_products fits.log m.width + 2 ^ fits.log * m.width,
+    λ k high. ap (λ l. facts.transform_products l m.width + 2 ^ l * m.width)
+        (log_same fits.log k (sym fits.height ∙ high)),
+  )
+  cost_of f bits (Idft m) fits = (
+    facts.transform_products fits.log m.width + 2 ^ fits.log * m.width,
+    λ k high. ap (λ l. facts.transform_products l m.width + 2 ^ l * m.width)
+        (log_same fits.log k (sym fits.height ∙ high)),
+  )
+  cost_of f bits (CosetIdft m s) (fits, invertible) = (
+    facts.transform_products fits.log m.width + 2 * (2 ^ fits.log * m.width),
+    λ k high. ap (λ l. facts.transform_products l m.width + 2 * (2 ^ l * m.width))
+        (log_same fits.log k (sym fits.height ∙ high)),
+  )
+  cost_of f bits (Lde m a) fits = (
+    facts.extension_products fits.log a m.width,
+    λ k high. ap (λ l. facts.extension_products l a m.width) (log_same fits.log k (sym fits.height ∙ high)),
+  )
+  cost_of f bits (CosetLde m a s) fits = (
+    facts.extension_products fits.log a m.width,
+    λ k high. ap (λ l. facts.extension_products l a m.width) (log_same fits.log k (sym fits.height ∙ high)),
+  )
 
   -- no job, and one more, that made no more than its cost
   pub costs_none : (none : List (Job F)) (before : ℕ) → none ≡ [] → (costs : List ℕ) × AllZip (IsCost facts) none costs × (before ≤ before + sum costs)
@@ -91,14 +112,17 @@ module _ {F : Type 0} (f : FieldMembers F) (generator : ℕ → F) where
       }
 
   -- the next job is the one whose place has no answer
-  pub next_is : (jobs done left later : List (Job F)) (job : Job F) (answers : List (RowMajor F)) (d : Job F) → jobs ≡ done ++ left → left ≡ job ∷ later → AllZip (IsAnswer f generator) done answers
+  pub next_is : (jobs done left later : List (Job F)) (job : Job F) (answers : List (RowMajor F)) (d : Job F)
+      → jobs ≡ done ++ left → left ≡ job ∷ later → AllZip (IsAnswer f generator) done answers
       → get_or jobs (length answers) d ≡ job
   next_is jobs done left later job answers d split next answered =
       let counted : length answers ≡ length done = AllZip-long (IsAnswer f generator) done answers answered in
-      ap (λ xs. get_or xs (length answers) d) (split ∙ ap (λ rest. done ++ rest) next) ∙ ap (λ n. get_or (done ++ job ∷ later) n d) counted ∙ get_or-append_seam done job later d
+      ap (λ xs. get_or xs (length answers) d) (split ∙ ap (λ rest. done ++ rest) next)
+      ∙ ap (λ n. get_or (done ++ job ∷ later) n d) counted ∙ get_or-append_seam done job later d
 
   -- where the next job was refused, it was not promised, nor was it before
-  pub next_not_promised : {E : Type 0} (facts : EngineFacts E F) (jobs done left later : List (Job F)) (job : Job F) (answers : List (RowMajor F)) (before now : E)
+  pub next_not_promised : {E : Type 0} (facts : EngineFacts E F) (jobs done left later : List (Job F)) (job : Job F)
+      (answers : List (RowMajor F)) (before now : E)
       → jobs ≡ done ++ left → left ≡ job ∷ later → AllZip (IsAnswer f generator) done answers → IsLater facts before now
       → (IsPromised facts now job → ⊥) → NextIsNotPromised facts before jobs answers
   next_not_promised facts jobs done left later job answers before now split next answered kept refused d promised =
@@ -114,10 +138,15 @@ pub next_of_all : {X : Type 0} (P : X → Type 0) (x : X) (later left : List X) 
 next_of_all P x later left next known = subst (All P) next known 0 x (omega arith)
 
 -- the jobs that are left have costs too
-pub costs_rest : {E F : Type 0} (facts : EngineFacts E F) (f : FieldMembers F) (bits : ℕ) (jobs done left : List (Job F)) (before now : ℕ) → jobs ≡ done ++ left → All (CanRun f bits) left
-    → (costs : List ℕ) × AllZip (IsCost facts) done costs × (now ≤ before + sum costs) → (costs : List ℕ) × AllZip (IsCost facts) jobs costs × (now ≤ before + sum costs)
+pub costs_rest : {E F : Type 0} (facts : EngineFacts E F) (f : FieldMembers F) (bits : ℕ)
+    (jobs done left : List (Job F)) (before now : ℕ)
+    → jobs ≡ done ++ left → All (CanRun f bits) left
+    → (costs : List ℕ) × AllZip (IsCost facts) done costs × (now ≤ before + sum costs) → (costs : List ℕ)
+    × AllZip (IsCost facts) jobs costs × (now ≤ before + sum costs)
 costs_rest facts f bits jobs done [] before now split runs so_far =
     of_all (λ xs. (costs : List ℕ) × AllZip (IsCost facts) xs costs × (now ≤ before + sum costs)) jobs done [] split refl so_far
 costs_rest facts f bits jobs done (job ∷ left) before now split runs so_far =
-    costs_rest facts f bits jobs (done ++ job ∷ []) left before now (split_more jobs done (job ∷ left) left job split refl) (All-rest (CanRun f bits) job left (job ∷ left) refl runs)
+    costs_rest facts f bits jobs (done ++ job ∷ []) left before now
+    (split_more jobs done (job ∷ left) left job split refl)
+    (All-rest (CanRun f bits) job left (job ∷ left) refl runs)
     (costs_more facts f bits done job before now now (next_of_all (CanRun f bits) job left (job ∷ left) refl runs) so_far (λ n is. omega arith))

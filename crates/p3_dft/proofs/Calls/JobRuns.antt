@@ -1,5 +1,6 @@
 -- What the call for a job answers, and what it leaves of the engine.
-use Rattle.std.proofs.Common.{◌≡◌, ℕ, ◌≤◌, inl, inr, List, length, get_or, Result, Ok, Err, IfErr, IfOk, IsOk, IsErr, IsErrAnd, refl, sym, ap, ◌∙◌, subst, arith, le_refl}
+use Rattle.std.proofs.Common.{◌≡◌, ℕ, ◌≤◌, inl, inr, List, length, get_or, Result, Ok, Err, IfErr, IfOk, IsOk, IsErr}
+use Rattle.std.proofs.Common.{IsErrAnd, refl, sym, ap, ◌∙◌, subst, arith, le_refl}
 use Rattle.std.proofs.lemmas.Result.{IfErr-at_err, IfOk-at_ok, IfOk-from_err}
 use Rattle.p3_field.specs.declared.fields.Valued.{Ghosts as FieldMembers}
 use Rattle.p3_matrix.specs.declared.error.DftError.{DftError}
@@ -18,53 +19,122 @@ use Rattle.p3_dft.proofs.Calls.PreparedHeights.{not_ok}
 
 module _ {E F : Type 0} (facts : EngineFacts E F) (bytes : ℕ) (f : FieldMembers F) (generator : ℕ → F) where
   module _ {V : Type 0} (bits : ℕ) (job : Job F) (m : RowMajor F) (natural : V → RowMajor F) (a b : E) (r : Result V DftError) (runs : CanRun f bits job) where
-    pub dft_run : job ≡ Dft m → IfOk r (λ v. IsTransform f generator m f.ring.one (natural v)) → AtLog (height m) (λ k. facts.Succeeds a k → IsOk r) → AfterDft facts bytes a b r m 0 → IsRun facts bytes f generator job natural a b r
+    pub dft_run : job ≡ Dft m → IfOk r (λ v. IsTransform f generator m f.ring.one (natural v))
+        → AtLog (height m) (λ k. facts.Succeeds a k → IsOk r) → AfterDft facts bytes a b r m 0
+        → IsRun facts bytes f generator job natural a b r
     dft_run is values promised call =
         let fits : FitsDft bits (height m) m.width = subst (CanRun f bits) is runs in
         let made = call.cost fits.log fits.height in
-        subst (λ (j : Job F). IsRun facts bytes f generator j natural a b r) (sym is) (record { answer = values; succeeds = λ p. promised p.0 p.1 p.2; prepares = where_ok r call.prepared; cost = λ n asked. let same = asked fits.log fits.height in omega (arith, made, same); later = call.later; room = call.refused })
+        subst (λ (j : Job F). IsRun facts bytes f generator j natural a b r) (sym is) (record {
+          answer = values;
+          succeeds = λ p. promised p.0 p.1 p.2;
+          prepares = where_ok r call.prepared;
+          cost = λ n asked. let same = asked fits.log fits.height in omega (arith, made, same);
+          later = call.later;
+          room = call.refused;
+        })
 
-    pub coset_dft_run : (s : F) → job ≡ CosetDft m s → IfOk r (λ v. IsTransform f generator m (f.value s) (natural v)) → AtLog (height m) (λ k. facts.Succeeds a k → facts.SucceedsOnCoset a k s → IsOk r) → AfterDft facts bytes a b r m 1 → IsRun facts bytes f generator job natural a b r
+    pub coset_dft_run : (s : F) → job ≡ CosetDft m s → IfOk r (λ v. IsTransform f generator m (f.value s) (natural v))
+        → AtLog (height m) (λ k. facts.Succeeds a k → facts.SucceedsOnCoset a k s → IsOk r)
+        → AfterDft facts bytes a b r m 1 → IsRun facts bytes f generator job natural a b r
     coset_dft_run s is values promised call =
         let fits : FitsDft bits (height m) m.width = subst (CanRun f bits) is runs in
         let made = call.cost fits.log fits.height in
-        subst (λ (j : Job F). IsRun facts bytes f generator j natural a b r) (sym is) (record { answer = values; succeeds = λ p. promised p.0 p.1 p.2 p.3; prepares = where_ok r call.prepared; cost = λ n asked. let same = asked fits.log fits.height in omega (arith, made, same); later = call.later; room = call.refused })
+        subst (λ (j : Job F). IsRun facts bytes f generator j natural a b r) (sym is) (record {
+          answer = values;
+          succeeds = λ p. promised p.0 p.1 p.2 p.3;
+          prepares = where_ok r call.prepared;
+          cost = λ n asked. let same = asked fits.log fits.height in omega (arith, made, same);
+          later = call.later;
+          room = call.refused;
+        })
 
-    pub idft_run : job ≡ Idft m → IfOk r (λ v. IsInterpolation f generator m f.ring.one (natural v)) → AtLog (height m) (λ k. facts.Succeeds a k → IsOk r) → AfterDft facts bytes a b r m 1 → IsRun facts bytes f generator job natural a b r
+    pub idft_run : job ≡ Idft m → IfOk r (λ v. IsInterpolation f generator m f.ring.one (natural v))
+        → AtLog (height m) (λ k. facts.Succeeds a k → IsOk r) → AfterDft facts bytes a b r m 1
+        → IsRun facts bytes f generator job natural a b r
     idft_run is values promised call =
         let fits : FitsDft bits (height m) m.width = subst (CanRun f bits) is runs in
         let made = call.cost fits.log fits.height in
-        subst (λ (j : Job F). IsRun facts bytes f generator j natural a b r) (sym is) (record { answer = values; succeeds = λ p. promised p.0 p.1 p.2; prepares = where_ok r call.prepared; cost = λ n asked. let same = asked fits.log fits.height in omega (arith, made, same); later = call.later; room = call.refused })
+        subst (λ (j : Job F). IsRun facts bytes f generator j natural a b r) (sym is) (record {
+          answer = values;
+          succeeds = λ p. promised p.0 p.1 p.2;
+          prepares = where_ok r call.prepared;
+          cost = λ n asked. let same = asked fits.log fits.height in omega (arith, made, same);
+          later = call.later;
+          room = call.refused;
+        })
 
-    pub coset_idft_run : (s : F) → job ≡ CosetIdft m s → IfOk r (λ v. IsInterpolation f generator m (f.value s) (natural v)) → AtLog (height m) (λ k. facts.Succeeds a k → IsOk r) → AfterDft facts bytes a b r m 2 → IsRun facts bytes f generator job natural a b r
+    pub coset_idft_run : (s : F) → job ≡ CosetIdft m s
+        → IfOk r (λ v. IsInterpolation f generator m (f.value s) (natural v))
+        → AtLog (height m) (λ k. facts.Succeeds a k → IsOk r) → AfterDft facts bytes a b r m 2
+        → IsRun facts bytes f generator job natural a b r
     coset_idft_run s is values promised call =
         let fits : FitsDft bits (height m) m.width = (subst (CanRun f bits) is runs).0 in
         let made = call.cost fits.log fits.height in
-        subst (λ (j : Job F). IsRun facts bytes f generator j natural a b r) (sym is) (record { answer = values; succeeds = λ p. promised p.0 p.1 p.2; prepares = where_ok r call.prepared; cost = λ n asked. let same = asked fits.log fits.height in omega (arith, made, same); later = call.later; room = call.refused })
+        subst (λ (j : Job F). IsRun facts bytes f generator j natural a b r) (sym is) (record {
+          answer = values;
+          succeeds = λ p. promised p.0 p.1 p.2;
+          prepares = where_ok r call.prepared;
+          cost = λ n asked. let same = asked fits.log fits.height in omega (arith, made, same);
+          later = call.later;
+          room = call.refused;
+        })
 
-    pub lde_run : (added : ℕ) → job ≡ Lde m added → IfOk r (λ v. IsExtension f generator m added f.ring.one (natural v)) → AfterLde facts bytes a b r m added → IsRun facts bytes f generator job natural a b r
+    pub lde_run : (added : ℕ) → job ≡ Lde m added → IfOk r (λ v. IsExtension f generator m added f.ring.one (natural v))
+        → AfterLde facts bytes a b r m added → IsRun facts bytes f generator job natural a b r
     lde_run added is values call =
         let fits : FitsLde bits (height m) m.width added = subst (CanRun f bits) is runs in
         let made = call.cost fits.log fits.height in
-        subst (λ (j : Job F). IsRun facts bytes f generator j natural a b r) (sym is) (record { answer = values; succeeds = λ p. absurd p; prepares = where_ok r call.prepared; cost = λ n asked. let same = asked fits.log fits.height in omega (arith, made, same); later = call.later; room = call.refused })
+        subst (λ (j : Job F). IsRun facts bytes f generator j natural a b r) (sym is) (record {
+          answer = values;
+          succeeds = λ p. absurd p;
+          prepares = where_ok r call.prepared;
+          cost = λ n asked. let same = asked fits.log fits.height in omega (arith, made, same);
+          later = call.later;
+          room = call.refused;
+        })
 
-    pub coset_lde_run : (added : ℕ) (s : F) → job ≡ CosetLde m added s → IfOk r (λ v. IsExtension f generator m added (f.value s) (natural v)) → AfterLde facts bytes a b r m added → IsRun facts bytes f generator job natural a b r
+    pub coset_lde_run : (added : ℕ) (s : F) → job ≡ CosetLde m added s
+        → IfOk r (λ v. IsExtension f generator m added (f.value s) (natural v)) → AfterLde facts bytes a b r m added
+        → IsRun facts bytes f generator job natural a b r
     coset_lde_run added s is values call =
         let fits : FitsLde bits (height m) m.width added = subst (CanRun f bits) is runs in
         let made = call.cost fits.log fits.height in
-        subst (λ (j : Job F). IsRun facts bytes f generator j natural a b r) (sym is) (record { answer = values; succeeds = λ p. absurd p; prepares = where_ok r call.prepared; cost = λ n asked. let same = asked fits.log fits.height in omega (arith, made, same); later = call.later; room = call.refused })
+        subst (λ (j : Job F). IsRun facts bytes f generator j natural a b r) (sym is) (record {
+          answer = values;
+          succeeds = λ p. absurd p;
+          prepares = where_ok r call.prepared;
+          cost = λ n asked. let same = asked fits.log fits.height in omega (arith, made, same);
+          later = call.later;
+          room = call.refused;
+        })
 
   -- where memory was refused, any other error says the same
-  pub run_refused : {V W : Type 0} {natural : V → RowMajor F} (job : Job F) (stored : W → RowMajor F) (a b : E) (r : Result V DftError) (e : DftError) (s : Result W DftError) → r ≡ Err e → IsErr s × IsErrAnd s (λ y. y ≡ e)
+  pub run_refused : {V W : Type 0} {natural : V → RowMajor F} (job : Job F) (stored : W → RowMajor F) (a b : E)
+      (r : Result V DftError) (e : DftError) (s : Result W DftError)
+      → r ≡ Err e → IsErr s × IsErrAnd s (λ y. y ≡ e)
       → IsRun facts bytes f generator job natural a b r → IsRun facts bytes f generator job stored a b s
-  run_refused job stored a b r e s was (err, same) run = record { room = either_of bytes bytes (answer_entries job) (answer_entries job) (le_refl _) (le_refl _) facts.table_bytes (facts.tables b) (facts.tables b) (le_refl _) s e (err, same) (IfErr-at_err _ was run.room); answer = IfOk-from_err s _ err; succeeds = λ p. absurd (not_ok r e was (run.succeeds p)); prepares = IfOk-from_err s _ err; cost = run.cost; later = run.later }
+  run_refused job stored a b r e s was (err, same) run = record {
+    room =
+        either_of bytes bytes (answer_entries job) (answer_entries job) (le_refl _) (le_refl _) facts.table_bytes
+        (facts.tables b) (facts.tables b) (le_refl _) s e (err, same) (IfErr-at_err _ was run.room);
+    answer = IfOk-from_err s _ err;
+    succeeds = λ p. absurd (not_ok r e was (run.succeeds p));
+    prepares = IfOk-from_err s _ err;
+    cost = run.cost;
+    later = run.later;
+  }
 
   -- an answer, as it is stored
-  pub run_stored : {V : Type 0} {natural : V → RowMajor F} (job : Job F) (a b c : E) (r : Result V DftError) (v w : V) (out : RowMajor F) → r ≡ Ok v → c ≡ b → w ≡ v → out ≡ natural w
+  pub run_stored : {V : Type 0} {natural : V → RowMajor F} (job : Job F) (a b c : E) (r : Result V DftError) (v w : V)
+      (out : RowMajor F)
+      → r ≡ Ok v → c ≡ b → w ≡ v → out ≡ natural w
       → IsRun facts bytes f generator job natural a b r → IsRun facts bytes f generator job (λ o. o) a c (Ok out)
   run_stored {natural = natural} job a b c r v w out was engine same stored run =
       subst (λ (e : E). IsRun facts bytes f generator job (λ o. o) a e (Ok out)) (sym engine) (record {
-        answer = subst (λ (o : RowMajor F). IsAnswer f generator job o) (sym (stored ∙ ap natural same)) (IfOk-at_ok (λ x. IsAnswer f generator job (natural x)) was run.answer);
+        answer =
+            subst (λ (o : RowMajor F). IsAnswer f generator job o) (sym (stored ∙ ap natural same))
+            (IfOk-at_ok (λ x. IsAnswer f generator job (natural x)) was run.answer);
         succeeds = λ p. refl;
         prepares = IfOk-at_ok (λ x. IsPreparedFor facts b job) was run.prepares;
         cost = run.cost;
@@ -73,15 +143,22 @@ module _ {E F : Type 0} (facts : EngineFacts E F) (bytes : ℕ) (f : FieldMember
       })
 
 -- what the error that `?` hands on tells of the job without an answer, whatever stands past the end of the list
-pub told_of_job : {A E F : Type 0} (facts : EngineFacts E F) (bytes matrix_bytes : ℕ) (b : E) (jobs : List (Job F)) (answers : List (RowMajor F)) (job : Job F) (r : Result A DftError) (e : DftError)
-    → IsErr r × IsErrAnd r (λ y. y ≡ e) → ((d : Job F) → get_or jobs (length answers) d ≡ job) → IsWithinEither bytes (answer_entries job) facts.table_bytes (facts.tables b) e
+pub told_of_job : {A E F : Type 0} (facts : EngineFacts E F) (bytes matrix_bytes : ℕ) (b : E) (jobs : List (Job F))
+    (answers : List (RowMajor F)) (job : Job F) (r : Result A DftError) (e : DftError)
+    → IsErr r
+    × IsErrAnd r (λ y. y ≡ e) → ((d : Job F) → get_or jobs (length answers) d ≡ job)
+    → IsWithinEither bytes (answer_entries job) facts.table_bytes (facts.tables b) e
     → IfErr r (RanOut facts bytes matrix_bytes b jobs answers)
 told_of_job facts bytes matrix_bytes b jobs answers job (Ok x) e told next within = tt
 told_of_job facts bytes matrix_bytes b jobs answers job (Err y) e (err, same) next within =
-    inr (λ d. subst (λ (j : Job _). IsWithinEither bytes (answer_entries j) facts.table_bytes (facts.tables b) y) (sym (next d)) (subst (IsWithinEither bytes (answer_entries job) facts.table_bytes (facts.tables b)) (sym same) within))
+    inr (λ d. subst (λ (j : Job _). IsWithinEither bytes (answer_entries j) facts.table_bytes (facts.tables b) y)
+    (sym (next d))
+    (subst (IsWithinEither bytes (answer_entries job) facts.table_bytes (facts.tables b)) (sym same) within))
 
 -- and of the list of answers
-pub told_of_list : {A E F : Type 0} (facts : EngineFacts E F) (bytes matrix_bytes : ℕ) (b : E) (jobs : List (Job F)) (answers : List (RowMajor F)) (n : ℕ) (r : Result A DftError) (e : DftError)
+pub told_of_list : {A E F : Type 0} (facts : EngineFacts E F) (bytes matrix_bytes : ℕ) (b : E) (jobs : List (Job F))
+    (answers : List (RowMajor F)) (n : ℕ) (r : Result A DftError) (e : DftError)
     → IsErr r × IsErrAnd r (λ y. y ≡ e) → n ≤ length jobs → IsWithin matrix_bytes n e → IfErr r (RanOut facts bytes matrix_bytes b jobs answers)
 told_of_list facts bytes matrix_bytes b jobs answers n (Ok x) e told few within = tt
-told_of_list facts bytes matrix_bytes b jobs answers n (Err y) e (err, same) few within = inl (subst (IsWithin matrix_bytes (length jobs)) (sym same) (within_more matrix_bytes n (length jobs) few e within))
+told_of_list facts bytes matrix_bytes b jobs answers n (Err y) e (err, same) few within =
+    inl (subst (IsWithin matrix_bytes (length jobs)) (sym same) (within_more matrix_bytes n (length jobs) few e within))

@@ -29,7 +29,8 @@ module _ {F : Type 0} (f : FieldMembers F) where
   )
 
   -- and where one was added at most
-  pub coset_stays : (old new : List (Coset F)) (c : Coset F) → (new ≡ old) ⊎ (new ≡ old ++ c ∷ []) → (k : ℕ) (s : f.Element) → HasCoset f old k s → HasCoset f new k s
+  pub coset_stays : (old new : List (Coset F)) (c : Coset F) → (new ≡ old) ⊎ (new ≡ old ++ c ∷ [])
+      → (k : ℕ) (s : f.Element) → HasCoset f old k s → HasCoset f new k s
   coset_stays old new c (inl same) k s has = subst (λ (xs : List (Coset F)). HasCoset f xs k s) (sym same) has
   coset_stays old new c (inr more) k s has = subst (λ (xs : List (Coset F)). HasCoset f xs k s) (sym more) (coset_of_longer old (c ∷ []) k s has)
 
@@ -40,13 +41,16 @@ module _ {F : Type 0} (f : FieldMembers F) where
 
   -- a prepared coset stays prepared where heights and tables stay
   prepared_coset_stays : (before after : CosetEngineState F) → ((k : ℕ) → IsPrepared before.roots k → IsPrepared after.roots k)
-      → ((k : ℕ) (s : f.Element) → HasCoset f before.cosets k s → HasCoset f after.cosets k s) → (k : ℕ) (s : F) → IsCosetPrepared f before k (f.value s) → IsCosetPrepared f after k (f.value s)
+      → ((k : ℕ) (s : f.Element) → HasCoset f before.cosets k s → HasCoset f after.cosets k s) → (k : ℕ) (s : F) →
+      IsCosetPrepared f before k (f.value s) → IsCosetPrepared f after k (f.value s)
   prepared_coset_stays before after heights cosets k s (inl point) = inl point
   prepared_coset_stays before after heights cosets k s (inr (inl (one, there))) = inr (inl (one, heights k there))
   prepared_coset_stays before after heights cosets k s (inr (inr (other, has))) = inr (inr (other, cosets k (f.value s) has))
 
   -- no power, no table and no product is lost
-  pub later_with_tables : (bytes : ℕ) (t : ℕ → ℕ → ℕ) (x : ℕ → ℕ → ℕ → ℕ) (b : ℕ → ℕ → ℕ) (before : CosetEngineState F) (log more_log products more_products : ℕ) (cosets more_cosets : List (Coset F)) → tabled log products cosets ≡ before → log ≤ more_log
+  pub later_with_tables : (bytes : ℕ) (t : ℕ → ℕ → ℕ) (x : ℕ → ℕ → ℕ → ℕ) (b : ℕ → ℕ → ℕ) (before : CosetEngineState F)
+      (log more_log products more_products : ℕ) (cosets more_cosets : List (Coset F))
+      → tabled log products cosets ≡ before → log ≤ more_log
       → ((k : ℕ) (s : f.Element) → HasCoset f cosets k s → HasCoset f more_cosets k s) → products ≤ more_products
       → IsLater (coset_tabled_facts f bytes t x b) before (tabled more_log more_products more_cosets)
   later_with_tables bytes t x b before log more_log products more_products cosets more_cosets is higher stays grows =

@@ -27,7 +27,8 @@ tabled_facts transform_products extension_products block_rows = record {
 
 module _ {F : Type 0} (t : ℕ → ℕ → ℕ) (x : ℕ → ℕ → ℕ → ℕ) (b : ℕ → ℕ → ℕ) where
   -- no height and no product is lost
-  pub later_with_heights : (before : EngineState) (log more_log products more_products : ℕ) → up_to log products ≡ before → log ≤ more_log → products ≤ more_products
+  pub later_with_heights : (before : EngineState) (log more_log products more_products : ℕ)
+      → up_to log products ≡ before → log ≤ more_log → products ≤ more_products
       → IsLater (tabled_facts {F = F} t x b) before (up_to more_log more_products)
   later_with_heights before log more_log products more_products is higher grows =
       let still : (k : ℕ) → k ≤ log → k ≤ more_log = λ k there. omega (arith, there, higher) in
@@ -56,7 +57,8 @@ held_where (Ok x) before after k made ok = omega (arith, made)
 held_where (Err e) before after k made ok = search rules
 
 -- after a call that `on_prepared` made
-pub after_prepared : {bytes : ℕ} {F A T : Type 0} {log more_log products more_products : ℕ} (t : ℕ → ℕ → ℕ) (x : ℕ → ℕ → ℕ → ℕ) (b : ℕ → ℕ → ℕ) (m : RowMajor T) (more : ℕ) (r : Result A DftError)
+pub after_prepared : {bytes : ℕ} {F A T : Type 0} {log more_log products more_products : ℕ} (t : ℕ → ℕ → ℕ)
+    (x : ℕ → ℕ → ℕ → ℕ) (b : ℕ → ℕ → ℕ) (m : RowMajor T) (more : ℕ) (r : Result A DftError)
     → log ≤ more_log → products ≤ more_products → AtLog (height m) (λ k. OnOk r (more_log ≡ max log k))
     → AtLog (height m) (λ k. more_products ≤ products + (t k m.width + more * (2 ^ k * m.width))) → IfErr r (IsWithin bytes (height m * m.width))
     → AfterDft (tabled_facts {F = F} t x b) bytes (up_to log products) (up_to more_log more_products) r m more
@@ -80,7 +82,8 @@ some_log h zero high more = absurd (more high)
 some_log h (suc k) high more = omega arith
 
 -- where an answer prepares a height and an error changes nothing, no larger height is prepared
-pub none_above : {X T E : Type 0} (prepared : X → ℕ) (r : Result T E) (a b : X) (k : ℕ) → OnOk r (prepared b ≡ max (prepared a) k) → OnErr r (b ≡ a) → prepared b ≤ max (prepared a) k
+pub none_above : {X T E : Type 0} (prepared : X → ℕ) (r : Result T E) (a b : X) (k : ℕ)
+    → OnOk r (prepared b ≡ max (prepared a) k) → OnErr r (b ≡ a) → prepared b ≤ max (prepared a) k
 none_above prepared (Ok x) a b k made same = omega (arith, made)
 none_above prepared (Err e) a b k made same = omega (arith, ap prepared same)
 

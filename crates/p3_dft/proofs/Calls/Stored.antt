@@ -25,11 +25,14 @@ pub at_found : {T : Type 0} {m n : RowMajor T} {tall : ℕ} (P : ℕ → Type 0)
 at_found P log is same power holds = at_log P _ log (ap height (sym same) ∙ sym is ∙ power) holds
 
 -- all entries were written anew
-pub entries_written : {T : Type 0} (m out : RowMajor T) (ys : List T) → out.width ≡ m.width → out.values ≡ take (length m.values) (ys ++ drop (length ys) m.values) → length ys ≡ length m.values → HasEntriesOf out m
+pub entries_written : {T : Type 0} (m out : RowMajor T) (ys : List T) → out.width ≡ m.width
+    → out.values ≡ take (length m.values) (ys ++ drop (length ys) m.values) → length ys ≡ length m.values
+    → HasEntriesOf out m
 entries_written m out ys wide is size = record { shape = written_shape m out ys wide is size; size = ap length is ∙ written_size m.values ys size }
 
 -- and so they were of a matrix that had as many as another
-pub entries_then : {T U V : Type 0} (a : RowMajor T) (b : RowMajor U) (out : RowMajor V) → HasShapeOf b a → length b.values ≡ length a.values → HasEntriesOf out b → HasEntriesOf out a
+pub entries_then : {T U V : Type 0} (a : RowMajor T) (b : RowMajor U) (out : RowMajor V) → HasShapeOf b a
+    → length b.values ≡ length a.values → HasEntriesOf out b → HasEntriesOf out a
 entries_then a b out shape size last = record { shape = (last.shape.0 ∙ shape.0, last.shape.1 ∙ shape.1); size = last.size ∙ size }
 
 pub whole_still : {T U : Type 0} (m : RowMajor T) (out : RowMajor U) → IsRowMajor m → HasEntriesOf out m → IsRowMajor out

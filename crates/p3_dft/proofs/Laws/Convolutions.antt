@@ -1,5 +1,6 @@
 -- Products of polynomials by transforms: zeros behind a vector change no value, and what has the values of a product is the convolution.
-use Rattle.std.proofs.Common.{◌≡◌, ℕ, zero, suc, ◌+◌, ◌*◌, ◌/◌, ◌^◌, ◌<◌, ◌≤◌, List, [], ◌∷◌, ◌++◌, length, get_or, map, replicate, refl, sym, ap, ap₂, ◌∙◌, arith, ◌⊎◌, inl, inr}
+use Rattle.std.proofs.Common.{◌≡◌, ℕ, zero, suc, ◌+◌, ◌*◌, ◌/◌, ◌^◌, ◌<◌, ◌≤◌, List, [], ◌∷◌, ◌++◌, length, get_or, map}
+use Rattle.std.proofs.Common.{replicate, refl, sym, ap, ap₂, ◌∙◌, arith, ◌⊎◌, inl, inr}
 use Rattle.std.proofs.lemmas.Bool.{cases_lt}
 use Rattle.std.proofs.lemmas.List.{get_or_past, length-append, length-map, length-replicate}
 use Rattle.p3_field.specs.Ring.{Ring}
@@ -15,7 +16,8 @@ use Rattle.p3_matrix.proofs.Polynomials.Cosets.{is_values}
 use Rattle.p3_matrix.proofs.Polynomials.Convolutions.{convolution_past, product_by_index}
 
 -- zeros behind the coefficients change no value
-value_with_zeros : {T A : Type 0} (R : Ring A) (v : T → A) (z : T) → v z ≡ R.zero → (xs : List T) (m : ℕ) (x : A) → value R (map v (xs ++ replicate m z)) x ≡ value R (map v xs) x
+value_with_zeros : {T A : Type 0} (R : Ring A) (v : T → A) (z : T) → v z ≡ R.zero → (xs : List T) (m : ℕ) (x : A)
+    → value R (map v (xs ++ replicate m z)) x ≡ value R (map v xs) x
 unfolding value
 value_with_zeros R v z none [] zero x = refl
 value_with_zeros R v z none [] (suc m) x =
@@ -28,7 +30,8 @@ module _ {F : Type 0} (f : FieldMembers F) (generator : ℕ → F) (zero_law : f
 
   -- the transform of a vector with zeros behind it has the values of the polynomial itself
   pub transform_with_zeros : (xs ys zs : List F) (m size : ℕ) (s : f.Element) (k : ℕ) → zs ≡ xs ++ replicate m f.zero → length xs + m ≡ size → size ≡ 2 ^ k
-      → IsTransform f generator (one_column zs) s (one_column ys) → (i : ℕ) → i < size → f.value (get_or ys i f.zero) ≡ value f.ring (map f.value xs) (point f.ring roots k s i)
+      → IsTransform f generator (one_column zs) s (one_column ys) → (i : ℕ) → i < size → f.value (get_or ys i f.zero)
+      ≡ value f.ring (map f.value xs) (point f.ring roots k s i)
   transform_with_zeros xs ys zs m size s k padded sum power transform i below =
       let long : length zs ≡ size = omega (arith, ap length padded, length-append xs (replicate m f.zero), length-replicate m f.zero, sum) in
       (transform_of_vector f generator zs ys s k (long ∙ power) transform).1 i (omega (arith, long, below))
@@ -36,11 +39,13 @@ module _ {F : Type 0} (f : FieldMembers F) (generator : ℕ → F) (zero_law : f
       ∙ value_with_zeros f.ring f.value f.zero zero_law xs m (point f.ring roots k s i)
 
   -- coefficients whose values are the products of two polynomials' values are those of the product, where there is room for them
-  pub inverse_of_products : (vs ws ys zs ps out : List F) (size : ℕ) (s : f.Element) (k : ℕ) → size ≡ 2 ^ k → length ps ≡ size → length vs + length ws ≤ size + 1
+  pub inverse_of_products : (vs ws ys zs ps out : List F) (size : ℕ) (s : f.Element) (k : ℕ) → size ≡ 2 ^ k
+      → length ps ≡ size → length vs + length ws ≤ size + 1
       → ((i : ℕ) → i < size → f.value (get_or ys i f.zero) ≡ value f.ring (map f.value vs) (point f.ring roots k s i))
       → ((i : ℕ) → i < size → f.value (get_or zs i f.zero) ≡ value f.ring (map f.value ws) (point f.ring roots k s i))
       → ((i : ℕ) → i < size → f.value (get_or ps i f.zero) ≡ f.ring.mul (f.value (get_or ys i f.zero)) (f.value (get_or zs i f.zero)))
-      → IsInterpolation f generator (one_column ps) s (one_column out) → (n : ℕ) → f.value (get_or out n f.zero) ≡ convolution f.ring (map f.value vs) (map f.value ws) n
+      → IsInterpolation f generator (one_column ps) s (one_column out) → (n : ℕ) → f.value (get_or out n f.zero)
+      ≡ convolution f.ring (map f.value vs) (map f.value ws) n
   inverse_of_products vs ws ys zs ps out size s k power long room first second products inverse n = entry (cases_lt n size)
     where
       a : List f.Element

@@ -1,5 +1,7 @@
 -- Matrices over a vector space: a field is its own space of dimension one, and each coordinate stands alone.
-use Rattle.std.proofs.Common.{◌≡◌, ℕ, zero, suc, ◌+◌, ◌*◌, ◌/◌, ◌^◌, ◌<◌, ◌≤◌, ◌++◌, List, [], ◌∷◌, length, get_or, map, refl, sym, ap, ap₂, ◌∙◌, subst, arith, flat_map, add-mul, add_assoc, div-mul-le_self, mul-div_cancel, mul-le-mul_right, mul-one, mul_assoc}
+use Rattle.std.proofs.Common.{◌≡◌, ℕ, zero, suc, ◌+◌, ◌*◌, ◌/◌, ◌^◌, ◌<◌, ◌≤◌, ◌++◌, List, [], ◌∷◌, length, get_or, map}
+use Rattle.std.proofs.Common.{refl, sym, ap, ap₂, ◌∙◌, subst, arith, flat_map, add-mul, add_assoc, div-mul-le_self}
+use Rattle.std.proofs.Common.{mul-div_cancel, mul-le-mul_right, mul-one, mul_assoc}
 use Rattle.std.proofs.Math.ListN.{get_or-append}
 use Rattle.std.proofs.lemmas.List.{get_or-append-add, length-map}
 use Rattle.std.proofs.lemmas.List.Concat.{flat_map-cons}
@@ -34,7 +36,8 @@ flat-itself : {F : Type 0} (m : RowMajor F) → flat itself m ≡ m
 flat-itself {F} m = ap₂ (λ (w : ℕ) (xs : List F). record { width = w; values = xs }) (mul-one m.width) (entries-itself m.values)
 
 -- what relates matrices of coordinates relates the matrices themselves
-pub in_dimension_one : {F : Type 0} (related : RowMajor F → RowMajor F → Type 0) (m out : RowMajor F) → related (flat itself m) (flat itself out) → related m out
+pub in_dimension_one : {F : Type 0} (related : RowMajor F → RowMajor F → Type 0) (m out : RowMajor F)
+    → related (flat itself m) (flat itself out) → related m out
 in_dimension_one related m out given =
     subst (λ n. related n out) (flat-itself m) (subst (related (flat itself m)) (flat-itself out) given)
 
@@ -83,7 +86,8 @@ module _ {V F : Type 0} (v : SpaceMembers V F) (counted : (x : V) → length (v.
               ∙ ap (λ n. get_or (flat_map v.coordinates m.values) n f.zero) (same_place i j m.width v.DIMENSION t));
         }
 
-    coordinate_values : (c : Matrix f.Element) (y : RowMajor V) (n : ℕ) (s : f.Element) → 1 ≤ y.width * v.DIMENSION → IsValues f.ring roots c n s (values_of f (flat v y))
+    coordinate_values : (c : Matrix f.Element) (y : RowMajor V) (n : ℕ) (s : f.Element) → 1 ≤ y.width * v.DIMENSION
+        → IsValues f.ring roots c n s (values_of f (flat v y))
         → IsValues f.ring roots (chosen place y.width c) n s (values_of f (one_of y))
     coordinate_values c y n s some given =
         values_same f.ring roots (chosen place y.width c) n s (chosen place y.width (values_of f (flat v y))) (values_of f (one_of y))
@@ -101,7 +105,8 @@ module _ {V F : Type 0} (v : SpaceMembers V F) (counted : (x : V) → length (v.
 
     -- and the coordinates of coefficients are the coefficients of coordinates
     coordinate_coefficients : (m out : RowMajor V) (k : ℕ) (s : f.Element) → 1 ≤ m.width * v.DIMENSION → (flat v out).width ≡ (flat v m).width
-        → IsValues f.ring roots (values_of f (flat v m)) k s (values_of f (flat v out)) → IsValues f.ring roots (values_of f (one_of m)) k s (values_of f (one_of out))
+        → IsValues f.ring roots (values_of f (flat v m)) k s (values_of f (flat v out)) → IsValues f.ring roots
+        (values_of f (one_of m)) k s (values_of f (one_of out))
     coordinate_coefficients m out k s some same given =
         let wide : out.width ≡ m.width = element_width m out same in
         coefficients_same f.ring roots (chosen place out.width (values_of f (flat v m))) (values_of f (one_of m)) k s (values_of f (one_of out))
@@ -139,7 +144,8 @@ module _ {V F : Type 0} (v : SpaceMembers V F) (counted : (x : V) → length (v.
     }
 
     -- and the inverse
-    pub inverse_of_coordinate : (bits : ℕ) → AreRoots f.ring bits roots → (m out : RowMajor V) (s : f.Element) → FitsDft bits (height m) (m.width * v.DIMENSION) → IsInvertible f.ring s
+    pub inverse_of_coordinate : (bits : ℕ) → AreRoots f.ring bits roots → (m out : RowMajor V) (s : f.Element)
+        → FitsDft bits (height m) (m.width * v.DIMENSION) → IsInvertible f.ring s
         → IsInterpolation f generator (flat v m) s (flat v out) → IsInterpolation f generator (one_of m) s (one_of out)
     inverse_of_coordinate bits are_roots m out s fits invertible given = record {
       holds = coefficients;

@@ -1,5 +1,7 @@
 -- `==` of matrices: it is told where the values are equal, and only there.
-use Rattle.std.proofs.Common.{◌≡◌, ◌↔◌, ℕ, zero, suc, ◌+◌, ◌*◌, ◌/◌, ◌%◌, ◌<◌, ◌==◌, ◌&&◌, Bool, IsTrue, true, false, List, [], ◌∷◌, length, get_or, refl, sym, ap, ap₂, ◌∙◌, arith, eq-eqb, eqb-true, mod-lt, true≢false}
+use Rattle.std.proofs.Common.{◌≡◌, ◌↔◌, ℕ, zero, suc, ◌+◌, ◌*◌, ◌/◌, ◌%◌, ◌<◌, ◌==◌, ◌&&◌, Bool, IsTrue, true, false}
+use Rattle.std.proofs.Common.{List, [], ◌∷◌, length, get_or, refl, sym, ap, ap₂, ◌∙◌, arith, eq-eqb, eqb-true, mod-lt}
+use Rattle.std.proofs.Common.{true≢false}
 use Rattle.std.proofs.Math.Nat.{div-add-mod, div-lt_iff_lt-mul, mul_comm}
 use Rattle.std.specs.Cmp.Lexicographic.{pointwise}
 use Rattle.std.specs.Ordering.{eq_of_both, on}
@@ -17,11 +19,15 @@ abbrev pub equal : {F : Type 0} → (F → F → Bool) → RowMajor F → RowMaj
 equal {F} E = eq_of_both (on (λ (m : RowMajor F). m.width) ◌==◌) (on (λ (m : RowMajor F). m.values) (pointwise E))
 
 module _ {F : Type 0} (f : FieldMembers F) (E : F → F → Bool) (decides : (a b : F) → IsTrue (E a b) ↔ (f.value a ≡ f.value b)) where
-  lists_equal : (xs ys : List F) → length xs ≡ length ys → ((i : ℕ) → i < length xs → f.value (get_or xs i f.zero) ≡ f.value (get_or ys i f.zero)) → pointwise E xs ys ≡ true
+  lists_equal : (xs ys : List F) → length xs ≡ length ys
+      → ((i : ℕ) → i < length xs → f.value (get_or xs i f.zero) ≡ f.value (get_or ys i f.zero))
+      → pointwise E xs ys ≡ true
   lists_equal [] [] size same = refl
   lists_equal [] (y ∷ ys) size same = absurd (omega (arith, size))
   lists_equal (x ∷ xs) [] size same = absurd (omega (arith, size))
-  lists_equal (x ∷ xs) (y ∷ ys) size same = ap₂ ◌&&◌ ((decides x y).1 (same 0 (omega arith))) (lists_equal xs ys (omega (arith, size)) (λ i below. same (suc i) (omega arith)))
+  lists_equal (x ∷ xs) (y ∷ ys) size same =
+      ap₂ ◌&&◌ ((decides x y).1 (same 0 (omega arith)))
+      (lists_equal xs ys (omega (arith, size)) (λ i below. same (suc i) (omega arith)))
 
   equal_lists : (xs ys : List F) → pointwise E xs ys ≡ true → (length xs ≡ length ys) × ((i : ℕ) → f.value (get_or xs i f.zero) ≡ f.value (get_or ys i f.zero))
   equal_lists [] [] told = (refl, λ i. refl)
@@ -32,7 +38,8 @@ module _ {F : Type 0} (f : FieldMembers F) (E : F → F → Bool) (decides : (a 
       let rest = equal_lists xs ys parts.1 in
       (ap suc rest.0, at ((decides x y).0 parts.0) rest.1)
     where
-      at : f.value x ≡ f.value y → ((i : ℕ) → f.value (get_or xs i f.zero) ≡ f.value (get_or ys i f.zero)) → (i : ℕ) → f.value (get_or (x ∷ xs) i f.zero) ≡ f.value (get_or (y ∷ ys) i f.zero)
+      at : f.value x ≡ f.value y → ((i : ℕ) → f.value (get_or xs i f.zero) ≡ f.value (get_or ys i f.zero)) → (i : ℕ)
+          → f.value (get_or (x ∷ xs) i f.zero) ≡ f.value (get_or (y ∷ ys) i f.zero)
       at first later zero = first
       at first later (suc i) = later i
 

@@ -18,14 +18,19 @@ module _ {F : Type 0} (f : FieldMembers F) (generator : ℕ → F) (bits : ℕ) 
   abbrev roots : ℕ → f.Element
   roots n = f.value (generator n)
 
-  pub one_transform : (m a b : RowMajor F) (s : f.Element) → FitsDft bits (height m) m.width → IsTransform f generator m s a → IsTransform f generator m s b → Same (values_of f a) (values_of f b)
-  one_transform m a b s fits x y = values_unique f.ring roots (values_of f m) fits.log s (values_of f a) (values_of f b) (x fits.log fits.height) (y fits.log fits.height)
+  pub one_transform : (m a b : RowMajor F) (s : f.Element) → FitsDft bits (height m) m.width
+      → IsTransform f generator m s a → IsTransform f generator m s b → Same (values_of f a) (values_of f b)
+  one_transform m a b s fits x y =
+      values_unique f.ring roots (values_of f m) fits.log s (values_of f a) (values_of f b) (x fits.log fits.height)
+      (y fits.log fits.height)
 
-  pub one_interpolation : (m a b : RowMajor F) (s : f.Element) → FitsDft bits (height m) m.width → IsInterpolation f generator m s a → IsInterpolation f generator m s b
+  pub one_interpolation : (m a b : RowMajor F) (s : f.Element) → FitsDft bits (height m) m.width
+      → IsInterpolation f generator m s a → IsInterpolation f generator m s b
       → Same (values_of f a) (values_of f b)
   one_interpolation m a b s fits x y = y.only fits.log fits.height (values_of f a) (x.holds fits.log fits.height)
 
-  pub one_extension : (m a b : RowMajor F) (added : ℕ) (s : f.Element) → FitsLde bits (height m) m.width added → IsExtension f generator m added s a → IsExtension f generator m added s b
+  pub one_extension : (m a b : RowMajor F) (added : ℕ) (s : f.Element) → FitsLde bits (height m) m.width added
+      → IsExtension f generator m added s a → IsExtension f generator m added s b
       → Same (values_of f a) (values_of f b)
   one_extension m a b added s fits x y =
       let k = fits.log in
@@ -35,7 +40,8 @@ module _ {F : Type 0} (f : FieldMembers F) (generator : ℕ → F) (bits : ℕ) 
       values_unique f.ring roots x.coefficients (k + added) s (values_of f a) (values_of f b) (x.extended k fits.height)
       (coefficients_same f.ring roots y.coefficients x.coefficients (k + added) s (values_of f b) same (y.extended k fits.height))
 
-  pub one_answer : (job : Job F) (a b : RowMajor F) → CanRun f bits job → IsAnswer f generator job a → IsAnswer f generator job b → Same (values_of f a) (values_of f b)
+  pub one_answer : (job : Job F) (a b : RowMajor F) → CanRun f bits job → IsAnswer f generator job a
+      → IsAnswer f generator job b → Same (values_of f a) (values_of f b)
   one_answer (Dft m) a b can x y = one_transform m a b f.ring.one can x y
   one_answer (CosetDft m s) a b can x y = one_transform m a b (f.value s) can x y
   one_answer (Idft m) a b can x y = one_interpolation m a b f.ring.one can x y

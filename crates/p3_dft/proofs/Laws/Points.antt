@@ -25,8 +25,12 @@ module _ {A : Type 0} (R : Ring A) where
   two_invertible x is = (R.half, ap (λ y. R.mul y R.half) is ∙ Rings.two-mul R R.half ∙ R.half_twice)
 
   pub product_invertible : (x y z : A) → z ≡ R.mul x y → IsInvertible R x → IsInvertible R y → IsInvertible R z
-  product_invertible x y z is (u, undo) (v, undo_too) =
-      (R.mul u v, ap (λ t. R.mul t (R.mul u v)) is ∙ solve R (x ∷ y ∷ u ∷ v ∷ []) ((va ⊠ vb) ⊠ (vc ⊠ vd)) ((va ⊠ vc) ⊠ (vb ⊠ vd)) refl ∙ ap₂ R.mul undo undo_too ∙ R.mul_one R.one)
+  product_invertible x y z is (u, undo) (v, undo_too) = (
+    R.mul u v,
+    ap (λ t. R.mul t (R.mul u v)) is
+        ∙ solve R (x ∷ y ∷ u ∷ v ∷ []) ((va ⊠ vb) ⊠ (vc ⊠ vd)) ((va ⊠ vc) ⊠ (vb ⊠ vd)) refl
+        ∙ ap₂ R.mul undo undo_too ∙ R.mul_one R.one,
+  )
 
   pub square_invertible : (x z : A) → z ≡ R.mul x x → IsInvertible R x → IsInvertible R z
   square_invertible x z is inverse = product_invertible x x z is inverse inverse
@@ -68,7 +72,8 @@ module _ {A : Type 0} (R : Ring A) {g : ℕ → A} {bits : ℕ} (G : AreRoots R 
   -- the points of a coset of what has an inverse have one
   pub point_invertible : (n : ℕ) (s : A) (i : ℕ) (x : A) → x ≡ point R g n s i → n ≤ bits → IsInvertible R s → IsInvertible R x
   point_invertible n s i x is within inverse =
-      product_invertible R s (power R (g n) i) x (is ∙ point-mul R g n s i) inverse (power_invertible R (g n) (power R (g n) i) i refl (root_invertible n (g n) refl within))
+      product_invertible R s (power R (g n) i) x (is ∙ point-mul R g n s i) inverse
+      (power_invertible R (g n) (power R (g n) i) i refl (root_invertible n (g n) refl within))
 
   -- so have their differences
   pub difference_invertible : (n : ℕ) (s : A) (i j : ℕ) → n ≤ bits → IsInvertible R s → i < 2 ^ n → j < 2 ^ n → i ≢ j

@@ -1,7 +1,9 @@
 -- What two calls have to do with each other: laws that a user cites, in the words of the clauses.
 -- `m` is what a call is given; `y` and `z` are values, `c` and `d` coefficients, `out` an extension. A law that takes the roots'
 -- law names it `are_roots`; it is `roots_law` of the field.
-use Rattle.std.proofs.Common.{◌≡◌, ℕ, suc, ◌+◌, ◌*◌, ◌/◌, ◌^◌, ◌<◌, ◌≤◌, cond, le-ltb, lt-ltb, List, [], ◌∷◌, length, get_or, map, sym, ap, ◌∙◌, subst, arith, pow-add, pow_pos, le-mul_of_pos_right, mul-le-mul_right}
+use Rattle.std.proofs.Common.{◌≡◌, ℕ, suc, ◌+◌, ◌*◌, ◌/◌, ◌^◌, ◌<◌, ◌≤◌, cond, le-ltb, lt-ltb, List, [], ◌∷◌, length}
+use Rattle.std.proofs.Common.{get_or, map, sym, ap, ◌∙◌, subst, arith, pow-add, pow_pos, le-mul_of_pos_right}
+use Rattle.std.proofs.Common.{mul-le-mul_right}
 use Rattle.std.specs.List.{All, AllZip, range_with_len}
 use Rattle.std.proofs.Math.ListN.{get_or-map}
 use Rattle.std.proofs.lemmas.List.{ext_get_or, length-map}
@@ -41,17 +43,20 @@ module _ {F : Type 0} (f : FieldMembers F) (generator : ℕ → F) where
   values m = values_of f m
 
   -- what a call answers fits again
-  pub transform_fits : {bits : ℕ} (m y : RowMajor F) (s : f.Element) → FitsDft bits (height m) m.width → IsTransform f generator m s y → FitsDft bits (height y) y.width
+  pub transform_fits : {bits : ℕ} (m y : RowMajor F) (s : f.Element) → FitsDft bits (height m) m.width
+      → IsTransform f generator m s y → FitsDft bits (height y) y.width
   transform_fits {bits} m y s fits transform =
       let v = transform fits.log fits.height in
       fits_dft_as _ _ _ _ _ fits (v.height ∙ sym fits.height) v.width
 
-  pub interpolation_fits : {bits : ℕ} (m c : RowMajor F) (s : f.Element) → FitsDft bits (height m) m.width → IsInterpolation f generator m s c → FitsDft bits (height c) c.width
+  pub interpolation_fits : {bits : ℕ} (m c : RowMajor F) (s : f.Element) → FitsDft bits (height m) m.width
+      → IsInterpolation f generator m s c → FitsDft bits (height c) c.width
   interpolation_fits {bits} m c s fits inverse =
       let a = inverse.holds fits.log fits.height in
       fits_dft_as _ _ _ _ _ fits a.height a.width
 
-  pub extension_fits : {bits : ℕ} (m out : RowMajor F) (a : ℕ) (s : f.Element) → FitsLde bits (height m) m.width a → IsExtension f generator m a s out → FitsDft bits (height out) out.width
+  pub extension_fits : {bits : ℕ} (m out : RowMajor F) (a : ℕ) (s : f.Element) → FitsLde bits (height m) m.width a
+      → IsExtension f generator m a s out → FitsDft bits (height out) out.width
   extension_fits {bits} m out a s fits extension =
       output_fits bits (height m) m.width a (height out) out.width fits (extension.extended fits.log fits.height).height
       ((extension.extended fits.log fits.height).width ∙ (extension.are_coefficients fits.log fits.height).width)
@@ -62,7 +67,8 @@ module _ {F : Type 0} (f : FieldMembers F) (generator : ℕ → F) where
 
   -- ---- there and back
   -- the inverse of a transform is the matrix
-  pub inverse_of_transform : {bits : ℕ} (m y c : RowMajor F) (s : f.Element) → FitsDft bits (height m) m.width → IsTransform f generator m s y → IsInterpolation f generator y s c
+  pub inverse_of_transform : {bits : ℕ} (m y c : RowMajor F) (s : f.Element) → FitsDft bits (height m) m.width
+      → IsTransform f generator m s y → IsInterpolation f generator y s c
       → Same (values c) (values m)
   inverse_of_transform m y c s fits transform inverse =
       let v = transform fits.log fits.height in
@@ -70,7 +76,8 @@ module _ {F : Type 0} (f : FieldMembers F) (generator : ℕ → F) where
       (inverse.only fits.log v.height (values m) (record { height = fits.height ∙ sym v.height; width = sym v.width; values = v }))
 
   -- the transform of an inverse is the matrix
-  pub transform_of_inverse : {bits : ℕ} (m c y : RowMajor F) (s : f.Element) → FitsDft bits (height m) m.width → IsInterpolation f generator m s c → IsTransform f generator c s y
+  pub transform_of_inverse : {bits : ℕ} (m c y : RowMajor F) (s : f.Element) → FitsDft bits (height m) m.width
+      → IsInterpolation f generator m s c → IsTransform f generator c s y
       → Same (values y) (values m)
   transform_of_inverse m c y s fits inverse transform =
       let a = inverse.holds fits.log fits.height in
@@ -78,7 +85,8 @@ module _ {F : Type 0} (f : FieldMembers F) (generator : ℕ → F) where
 
   -- ---- extensions
   -- by no bits on the subgroup it is the input
-  pub extension_by_nothing : {bits : ℕ} (m out : RowMajor F) → FitsDft bits (height m) m.width → IsExtension f generator m 0 f.ring.one out → Same (values out) (values m)
+  pub extension_by_nothing : {bits : ℕ} (m out : RowMajor F) → FitsDft bits (height m) m.width
+      → IsExtension f generator m 0 f.ring.one out → Same (values out) (values m)
   extension_by_nothing m out fits extension =
       let k = fits.log in
       let none : k + 0 ≡ k = omega arith in
@@ -86,7 +94,8 @@ module _ {F : Type 0} (f : FieldMembers F) (generator : ℕ → F) where
       (subst (λ (n : ℕ). IsValues f.ring roots extension.coefficients n f.ring.one (values out)) none (extension.extended k fits.height))
       (extension.are_coefficients k fits.height).values
 
-  back_from_extension : (m : RowMajor F) (c : Matrix f.Element) (out d : RowMajor F) (a k : ℕ) (s : f.Element) → height m ≡ 2 ^ k → c.height ≡ height m → IsValues f.ring roots c (k + a) s (values out)
+  back_from_extension : (m : RowMajor F) (c : Matrix f.Element) (out d : RowMajor F) (a k : ℕ) (s : f.Element)
+      → height m ≡ 2 ^ k → c.height ≡ height m → IsValues f.ring roots c (k + a) s (values out)
       → IsInterpolation f generator out s d → Same (values d) (lengthened f.ring.zero (height m * 2 ^ a) c)
   back_from_extension m c out d a k s high as_tall v back =
       let more : c.height ≤ height m * 2 ^ a = omega (arith, as_tall, le-mul_of_pos_right (height m) (pow_pos a)) in
@@ -109,33 +118,44 @@ module _ {F : Type 0} (f : FieldMembers F) (generator : ℕ → F) where
   pub transform_by_one : (m y : RowMajor F) (s : f.Element) → s ≡ f.ring.one → IsTransform f generator m s y → IsTransform f generator m f.ring.one y
   transform_by_one m y s one given = subst (λ (x : f.Element). IsTransform f generator m x y) one given
 
-  pub interpolation_by_one : (m c : RowMajor F) (s : f.Element) → s ≡ f.ring.one → IsInterpolation f generator m s c → IsInterpolation f generator m f.ring.one c
+  pub interpolation_by_one : (m c : RowMajor F) (s : f.Element) → s ≡ f.ring.one → IsInterpolation f generator m s c
+      → IsInterpolation f generator m f.ring.one c
   interpolation_by_one m c s one given = subst (λ (x : f.Element). IsInterpolation f generator m x c) one given
 
-  pub extension_by_one : (m out : RowMajor F) (a : ℕ) (s : f.Element) → s ≡ f.ring.one → IsExtension f generator m a s out → IsExtension f generator m a f.ring.one out
+  pub extension_by_one : (m out : RowMajor F) (a : ℕ) (s : f.Element) → s ≡ f.ring.one
+      → IsExtension f generator m a s out → IsExtension f generator m a f.ring.one out
   extension_by_one m out a s one given = subst (λ (x : f.Element). IsExtension f generator m a x out) one given
 
   module _ {bits : ℕ} (are_roots : AreRoots f.ring bits roots) where
     -- equal inputs have one interpolation and one extension
-    pub interpolation_of_equal : (m n c : RowMajor F) (s : f.Element) → Same (values m) (values n) → IsInterpolation f generator m s c → IsInterpolation f generator n s c
+    pub interpolation_of_equal : (m n c : RowMajor F) (s : f.Element) → Same (values m) (values n)
+        → IsInterpolation f generator m s c → IsInterpolation f generator n s c
     interpolation_of_equal m n c s same inverse = record {
       holds = λ k e. coefficients_of_same f.ring are_roots (values m) (values n) k s (values c) same (inverse.holds k (same.height ∙ e));
-      only = λ k e d are. inverse.only k (same.height ∙ e) d (coefficients_of_same f.ring are_roots (values n) (values m) k s d (same_sym (values m) (values n) same) are);
+      only =
+          λ k e d are. inverse.only k (same.height ∙ e) d
+          (coefficients_of_same f.ring are_roots (values n) (values m) k s d (same_sym (values m) (values n) same) are);
     }
 
-    pub extension_of_equal : (m n out : RowMajor F) (a : ℕ) (s : f.Element) → Same (values m) (values n) → IsExtension f generator m a s out → IsExtension f generator n a s out
+    pub extension_of_equal : (m n out : RowMajor F) (a : ℕ) (s : f.Element) → Same (values m) (values n)
+        → IsExtension f generator m a s out → IsExtension f generator n a s out
     extension_of_equal m n out a s same extension = record {
       coefficients = extension.coefficients;
-      are_coefficients = λ k e. coefficients_of_same f.ring are_roots (values m) (values n) k f.ring.one extension.coefficients same (extension.are_coefficients k (same.height ∙ e));
+      are_coefficients =
+          λ k e. coefficients_of_same f.ring are_roots (values m) (values n) k f.ring.one extension.coefficients same
+          (extension.are_coefficients k (same.height ∙ e));
       extended = λ k e. extension.extended k (same.height ∙ e);
     }
 
     -- the one matrix of coefficients on the subgroup
-    one_coefficients : (m : RowMajor F) (k : ℕ) (c d : Matrix f.Element) → k ≤ bits → AreCoefficients f.ring roots (values m) k f.ring.one c → AreCoefficients f.ring roots (values m) k f.ring.one d → Same c d
+    one_coefficients : (m : RowMajor F) (k : ℕ) (c d : Matrix f.Element) → k ≤ bits
+        → AreCoefficients f.ring roots (values m) k f.ring.one c
+        → AreCoefficients f.ring roots (values m) k f.ring.one d → Same c d
     one_coefficients m k c d within = there_is_no_other f.ring are_roots (values m) k f.ring.one within (f.ring.one, f.ring.mul_one f.ring.one) c d
 
     -- an extension has the values of the polynomials whose coefficients the inverse gives
-    pub extension_values : (m c out : RowMajor F) (a : ℕ) (s : f.Element) → FitsLde bits (height m) m.width a → IsInterpolation f generator m f.ring.one c → IsExtension f generator m a s out
+    pub extension_values : (m c out : RowMajor F) (a : ℕ) (s : f.Element) → FitsLde bits (height m) m.width a
+        → IsInterpolation f generator m f.ring.one c → IsExtension f generator m a s out
         → (k : ℕ) → height m ≡ 2 ^ k → IsValues f.ring roots (values c) (k + a) s (values out)
     extension_values m c out a s fits inverse extension k high =
         let within : k ≤ bits = exponent_within k (input_fits bits (height m) m.width a fits) high in
@@ -155,11 +175,13 @@ module _ {F : Type 0} (f : FieldMembers F) (generator : ℕ → F) where
         let there : i * 2 ^ a < 2 ^ (k + a) = omega (arith, rise, pow-add 2 k a, pow_pos a) in
         let inner : j < c.width = omega (arith, are.width) in
         (extension.extended k fits.height).values (i * 2 ^ a) j there inner
-        ∙ ap (value f.ring (column c j)) (point_of_one f.ring roots (k + a) (i * 2 ^ a) ∙ root_strided f.ring are_roots k a i fits.within ∙ sym (point_of_one f.ring roots k i))
+        ∙ ap (value f.ring (column c j)) (point_of_one f.ring roots (k + a) (i * 2 ^ a)
+        ∙ root_strided f.ring are_roots k a i fits.within ∙ sym (point_of_one f.ring roots k i))
         ∙ sym (are.values.values i j here inner)
 
     -- and the inverse of an extension is those coefficients, with rows of zeros below them
-    pub inverse_of_extension : (m c out d : RowMajor F) (a : ℕ) (s : f.Element) → FitsLde bits (height m) m.width a → IsInterpolation f generator m f.ring.one c → IsExtension f generator m a s out
+    pub inverse_of_extension : (m c out d : RowMajor F) (a : ℕ) (s : f.Element) → FitsLde bits (height m) m.width a
+        → IsInterpolation f generator m f.ring.one c → IsExtension f generator m a s out
         → IsInterpolation f generator out s d → Same (values d) (lengthened f.ring.zero (height m * 2 ^ a) (values c))
     inverse_of_extension m c out d a s fits inverse extension back =
         let k = fits.log in
@@ -167,7 +189,9 @@ module _ {F : Type 0} (f : FieldMembers F) (generator : ℕ → F) where
         (extension_values m c out a s fits inverse extension k fits.height) back
 
     -- so its first rows are those coefficients
-    pub inverse_keeps_coefficients : (m c out d : RowMajor F) (a : ℕ) (s : f.Element) → FitsLde bits (height m) m.width a → IsInterpolation f generator m f.ring.one c → IsExtension f generator m a s out
+    pub inverse_keeps_coefficients : (m c out d : RowMajor F) (a : ℕ) (s : f.Element)
+        → FitsLde bits (height m) m.width a → IsInterpolation f generator m f.ring.one c
+        → IsExtension f generator m a s out
         → IsInterpolation f generator out s d → (i j : ℕ) → i < height m → j < m.width → (values d).entry i j ≡ (values c).entry i j
     inverse_keeps_coefficients m c out d a s fits inverse extension back i j below inside =
         let are = inverse.holds fits.log fits.height in
@@ -177,7 +201,8 @@ module _ {F : Type 0} (f : FieldMembers F) (generator : ℕ → F) where
         ∙ ap (λ t. cond t ((values c).entry i j) f.ring.zero) (lt-ltb i (height c) (omega (arith, below, are.height)))
 
     -- nested cosets: the extension, with shift s, of the values on the coset of u is the values on the coset of u s
-    pub extension_of_coset : (c y out : RowMajor F) (a : ℕ) (u s : f.Element) → FitsLde bits (height c) c.width a → IsTransform f generator c u y → IsExtension f generator y a s out
+    pub extension_of_coset : (c y out : RowMajor F) (a : ℕ) (u s : f.Element) → FitsLde bits (height c) c.width a
+        → IsTransform f generator c u y → IsExtension f generator y a s out
         → (k : ℕ) → height c ≡ 2 ^ k → IsValues f.ring roots (values c) (k + a) (f.ring.mul u s) (values out)
     extension_of_coset c y out a u s fits transform extension k high =
         let v = transform k high in
@@ -189,7 +214,8 @@ module _ {F : Type 0} (f : FieldMembers F) (generator : ℕ → F) where
         (extension.extended k v.height)
 
     -- the answers of one list of jobs are the same, place by place
-    pub one_list_of_answers : (jobs : List (Job F)) (first second : List (RowMajor F)) → All (CanRun f bits) jobs → AllZip (IsAnswer f generator) jobs first → AllZip (IsAnswer f generator) jobs second
+    pub one_list_of_answers : (jobs : List (Job F)) (first second : List (RowMajor F)) → All (CanRun f bits) jobs
+        → AllZip (IsAnswer f generator) jobs first → AllZip (IsAnswer f generator) jobs second
         → AllZip (λ a b. Same (values a) (values b)) first second
     one_list_of_answers [] [] [] can given other = tt
     one_list_of_answers [] [] (b ∷ second) can given other = absurd other
@@ -210,26 +236,31 @@ module _ {F : Type 0} (f : FieldMembers F) (generator : ℕ → F) where
           let both = combination f.ring a (values m) b (values n) in
           values_unique f.ring roots both fits.log s (values out) (combination f.ring a (values y) b (values z))
           (coefficients_same f.ring roots (values p) both fits.log s (values out) sum (third fits.log (sum.height ∙ fits.height)))
-          (combination_values f.ring roots (values m) (values n) (values y) (values z) fits.log s a b (sym tall) (sym wide) (first fits.log fits.height) (second fits.log (tall ∙ fits.height)))
+          (combination_values f.ring roots (values m) (values n) (values y) (values z) fits.log s a b (sym tall)
+          (sym wide) (first fits.log fits.height) (second fits.log (tall ∙ fits.height)))
 
-      combination_coefficients : (t : f.Element) (c d : Matrix f.Element) → AreCoefficients f.ring roots (values m) fits.log t c → AreCoefficients f.ring roots (values n) fits.log t d
+      combination_coefficients : (t : f.Element) (c d : Matrix f.Element)
+          → AreCoefficients f.ring roots (values m) fits.log t c → AreCoefficients f.ring roots (values n) fits.log t d
           → AreCoefficients f.ring roots (values p) fits.log t (combination f.ring a c b d)
       combination_coefficients t c d are too = record {
         height = are.height ∙ sym sum.height;
         width = are.width ∙ sym sum.width;
         values = values_same f.ring roots (combination f.ring a c b d) fits.log t (combination f.ring a (values m) b (values n)) (values p)
-            (combination_values f.ring roots c d (values m) (values n) fits.log t a b (are.height ∙ sym tall ∙ sym too.height) (are.width ∙ sym wide ∙ sym too.width) are.values too.values)
+            (combination_values f.ring roots c d (values m) (values n) fits.log t a b
+            (are.height ∙ sym tall ∙ sym too.height) (are.width ∙ sym wide ∙ sym too.width) are.values too.values)
             (same_sym (values p) (combination f.ring a (values m) b (values n)) sum);
       }
 
-      pub inverse_of_combination : (c d out : RowMajor F) → IsInterpolation f generator m s c → IsInterpolation f generator n s d → IsInterpolation f generator p s out
+      pub inverse_of_combination : (c d out : RowMajor F) → IsInterpolation f generator m s c
+          → IsInterpolation f generator n s d → IsInterpolation f generator p s out
           → Same (values out) (combination f.ring a (values c) b (values d))
       inverse_of_combination c d out first second third =
           same_sym (combination f.ring a (values c) b (values d)) (values out)
           (third.only fits.log (sum.height ∙ fits.height) (combination f.ring a (values c) b (values d))
           (combination_coefficients s (values c) (values d) (first.holds fits.log fits.height) (second.holds fits.log (tall ∙ fits.height))))
 
-      pub extension_of_combination : (added : ℕ) (y z out : RowMajor F) → IsExtension f generator m added s y → IsExtension f generator n added s z → IsExtension f generator p added s out
+      pub extension_of_combination : (added : ℕ) (y z out : RowMajor F) → IsExtension f generator m added s y
+          → IsExtension f generator n added s z → IsExtension f generator p added s out
           → Same (values out) (combination f.ring a (values y) b (values z))
       extension_of_combination added y z out first second third =
           let c = first.coefficients in
@@ -239,20 +270,26 @@ module _ {F : Type 0} (f : FieldMembers F) (generator : ℕ → F) where
           let both = combination f.ring a c b d in
           values_unique f.ring roots both (fits.log + added) s (values out) (combination f.ring a (values y) b (values z))
           (coefficients_same f.ring roots third.coefficients both (fits.log + added) s (values out)
-          (one_coefficients p fits.log third.coefficients both fits.within (third.are_coefficients fits.log (sum.height ∙ fits.height)) (combination_coefficients f.ring.one c d are too))
+          (one_coefficients p fits.log third.coefficients both fits.within
+          (third.are_coefficients fits.log (sum.height ∙ fits.height))
+          (combination_coefficients f.ring.one c d are too))
           (third.extended fits.log (sum.height ∙ fits.height)))
-          (combination_values f.ring roots c d (values y) (values z) (fits.log + added) s a b (are.height ∙ sym tall ∙ sym too.height) (are.width ∙ sym wide ∙ sym too.width)
+          (combination_values f.ring roots c d (values y) (values z) (fits.log + added) s a b
+          (are.height ∙ sym tall ∙ sym too.height) (are.width ∙ sym wide ∙ sym too.width)
           (first.extended fits.log fits.height) (second.extended fits.log (tall ∙ fits.height)))
 
     -- ---- one column: v is column j of m
-    module _ (m v : RowMajor F) (j : ℕ) (s : f.Element) (fits : FitsDft bits (height m) m.width) (inside : j < m.width) (same : Same (values v) (alone j (values m))) where
+    module _ (m v : RowMajor F) (j : ℕ) (s : f.Element) (fits : FitsDft bits (height m) m.width) (inside : j < m.width)
+        (same : Same (values v) (alone j (values m))) where
       pub transform_of_column : (y z : RowMajor F) → IsTransform f generator m s y → IsTransform f generator v s z → Same (values z) (alone j (values y))
       transform_of_column y z whole one =
           values_unique f.ring roots (alone j (values m)) fits.log s (values z) (alone j (values y))
           (coefficients_same f.ring roots (values v) (alone j (values m)) fits.log s (values z) same (one fits.log (same.height ∙ fits.height)))
           (column_values f.ring roots (values m) (values y) fits.log s j inside (whole fits.log fits.height))
 
-      column_coefficients : (t : f.Element) (c : Matrix f.Element) → AreCoefficients f.ring roots (values m) fits.log t c → AreCoefficients f.ring roots (values v) fits.log t (alone j c)
+      column_coefficients : (t : f.Element) (c : Matrix f.Element)
+          → AreCoefficients f.ring roots (values m) fits.log t c
+          → AreCoefficients f.ring roots (values v) fits.log t (alone j c)
       column_coefficients t c are = record {
         height = are.height ∙ sym same.height;
         width = sym same.width;
@@ -262,15 +299,19 @@ module _ {F : Type 0} (f : FieldMembers F) (generator : ℕ → F) where
 
       pub inverse_of_column : (c d : RowMajor F) → IsInterpolation f generator m s c → IsInterpolation f generator v s d → Same (values d) (alone j (values c))
       inverse_of_column c d whole one =
-          same_sym (alone j (values c)) (values d) (one.only fits.log (same.height ∙ fits.height) (alone j (values c)) (column_coefficients s (values c) (whole.holds fits.log fits.height)))
+          same_sym (alone j (values c)) (values d) (one.only fits.log (same.height ∙ fits.height) (alone j (values c))
+          (column_coefficients s (values c) (whole.holds fits.log fits.height)))
 
-      pub extension_of_column : (added : ℕ) (y z : RowMajor F) → IsExtension f generator m added s y → IsExtension f generator v added s z → Same (values z) (alone j (values y))
+      pub extension_of_column : (added : ℕ) (y z : RowMajor F) → IsExtension f generator m added s y
+          → IsExtension f generator v added s z → Same (values z) (alone j (values y))
       extension_of_column added y z whole one =
           let are = whole.are_coefficients fits.log fits.height in
           let c = whole.coefficients in
           values_unique f.ring roots (alone j c) (fits.log + added) s (values z) (alone j (values y))
           (coefficients_same f.ring roots one.coefficients (alone j c) (fits.log + added) s (values z)
-          (one_coefficients v fits.log one.coefficients (alone j c) fits.within (one.are_coefficients fits.log (same.height ∙ fits.height)) (column_coefficients f.ring.one c are)) (one.extended fits.log (same.height ∙ fits.height)))
+          (one_coefficients v fits.log one.coefficients (alone j c) fits.within
+          (one.are_coefficients fits.log (same.height ∙ fits.height)) (column_coefficients f.ring.one c are))
+          (one.extended fits.log (same.height ∙ fits.height)))
           (column_values f.ring roots c (values y) (fits.log + added) s j (omega (arith, are.width)) (whole.extended fits.log fits.height))
 
   -- ---- vectors

@@ -9,7 +9,8 @@ use Rattle.dft_program.proofs.matrices.matrix_of.Goals as goal
 pub element_of-requires : goal.element_of-requires
 element_of-requires g c =
     rw (c.number_or_zero-number.ensures, c.as_str.ensures.value, c.word-item.is)
-    (all_below g.F.CanonicalField.ORDER_U64 (λ word. number_or_zero (string_bytes word)) c.args.words.now c.loop-word.word-index c.word-item.result c.loop-word-test.true c.requires.below)
+    (all_below g.F.CanonicalField.ORDER_U64 (λ word. number_or_zero (string_bytes word)) c.args.words.now
+    c.loop-word.word-index c.word-item.result c.loop-word-test.true c.requires.below)
 
 pub new-requires-clause-full : goal.new-requires-clause-full
 new-requires-clause-full g c =

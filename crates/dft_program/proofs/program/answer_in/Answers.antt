@@ -33,11 +33,15 @@ returns g c element named =
     let field = numbered g.F.Valued g.F.TwoAdicField.generator g.F.TwoAdicField.TWO_ADICITY g.F.CanonicalField.ORDER_U64 element in
     let arguments = c.in_ok-arguments.arguments in
     let text = vec_items c.in_ok-text_of.field-0 in
-    subst (λ (read : Result Arguments Fault). FaultOr read (IsAnswered field c.args.operation) (record { status = 0; text = text })) (c.in_ok-arguments.ensures.exact element named) (
+    subst (λ (read : Result Arguments Fault). FaultOr read (IsAnswered field c.args.operation)
+    (record { status = 0; text = text })) (c.in_ok-arguments.ensures.exact element named) (
       refl,
-      text_of_answer g.F.Valued g.F.TwoAdicField.generator g.F.TwoAdicField.TWO_ADICITY g.F.CanonicalField.ORDER_U64 element (ap g.F.Valued.value (sym g.met.F.Field.same_zero) ∙ g.met.F.Field.zero_law) g.met.F.TwoAdicField.roots_law
+      text_of_answer g.F.Valued g.F.TwoAdicField.generator g.F.TwoAdicField.TWO_ADICITY g.F.CanonicalField.ORDER_U64
+          element (ap g.F.Valued.value (sym g.met.F.Field.same_zero) ∙ g.met.F.Field.zero_law)
+          g.met.F.TwoAdicField.roots_law
           g.met.F.Field.number_law named g.met.F.CanonicalField.number_below_law c.args.operation
           (record { added_bits = arguments.added_bits; shift = arguments.shift; width = arguments.width; values = numbers_of arguments.values.now })
-          c.in_ok-matrix.matrix c.in_ok-answer.answer c.element_of-shift.result text c.in_ok-matrix.ensures.width c.in_ok-matrix.ensures.numbers c.element_of-shift.ensures
+          c.in_ok-matrix.matrix c.in_ok-answer.answer c.element_of-shift.result text c.in_ok-matrix.ensures.width
+          c.in_ok-matrix.ensures.numbers c.element_of-shift.ensures
           c.in_ok-text_of.ensures.whole (rw (sym c.job_of-job.ensures) c.in_ok-answer.ensures.answer) c.in_ok-text_of.ensures.text,
     )

@@ -8,10 +8,12 @@ use Rattle.dft_program.proofs.program.answer_in_field.Goals as goal
 
 pub returns-in-BabyBear : goal.returns-in-BabyBear
 returns-in-BabyBear c =
-    subst (λ (field : FieldName). Gives c.answer_in.result (IsOutcomeIn field c.args.request.operation (map string_bytes c.args.words.now))) (sym c.in-BabyBear.is)
+    subst (λ (field : FieldName). Gives c.answer_in.result
+    (IsOutcomeIn field c.args.request.operation (map string_bytes c.args.words.now))) (sym c.in-BabyBear.is)
     (c.answer_in.ensures (residue_of baby_bear_modulus (lit< tt) refl) (λ n below. omega arith))
 
 pub returns-in-Goldilocks : goal.returns-in-Goldilocks
 returns-in-Goldilocks c =
-    subst (λ (field : FieldName). Gives c.answer_in-in-Goldilocks.result (IsOutcomeIn field c.args.request.operation (map string_bytes c.args.words.now))) (sym c.in-Goldilocks.is)
+    subst (λ (field : FieldName). Gives c.answer_in-in-Goldilocks.result
+    (IsOutcomeIn field c.args.request.operation (map string_bytes c.args.words.now))) (sym c.in-Goldilocks.is)
     (c.answer_in-in-Goldilocks.ensures (residue_of goldilocks_modulus (lit< tt) refl) (λ n below. omega arith))

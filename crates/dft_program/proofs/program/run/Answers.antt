@@ -6,11 +6,15 @@ use Rattle.dft_program.proofs.program.run.Goals as goal
 pub returns-in-Err-OutOfMemory-clause-memory : goal.returns-in-Err-OutOfMemory-clause-memory
 returns-in-Err-OutOfMemory-clause-memory g c is =
     let words = map string_bytes c.args.words.now in
-    let told = answerable_without_memory words c.in-Err-OutOfMemory.field-0 c.answer.result c.in-Err-OutOfMemory.is c.in-Err-OutOfMemory.field-0-is c.answer.ensures in
+    let told =
+    answerable_without_memory words c.in-Err-OutOfMemory.field-0 c.answer.result c.in-Err-OutOfMemory.is
+    c.in-Err-OutOfMemory.field-0-is c.answer.ensures in
     (told.0, told.1, c.tell_out_of_memory.ensures.memory is)
 
 pub returns-in-Err-OutOfMemory-clause-stopped : goal.returns-in-Err-OutOfMemory-clause-stopped
 returns-in-Err-OutOfMemory-clause-stopped g c is =
     let words = map string_bytes c.args.words.now in
-    let told = answerable_without_memory words c.in-Err-OutOfMemory.field-0 c.answer.result c.in-Err-OutOfMemory.is c.in-Err-OutOfMemory.field-0-is c.answer.ensures in
+    let told =
+    answerable_without_memory words c.in-Err-OutOfMemory.field-0 c.answer.result c.in-Err-OutOfMemory.is
+    c.in-Err-OutOfMemory.field-0-is c.answer.ensures in
     inr (told.0, told.1, c.tell_out_of_memory.ensures.stopped is)

@@ -9,7 +9,8 @@ pub returns-in_err-word-clause-first : goal.returns-in_err-word-clause-first
 returns-in_err-word-clause-first g c =
     let told = g.L.CommandLine.told in
     on_err c.from_residual-in_err-word.result
-    (maybe_one_more string_bytes (told c.args.line.now) (told c.loop-buffer.line) (told c.word_at.new.line) c.loop-buffer.texts.items (length c.as_slice.result.now)
+    (maybe_one_more string_bytes (told c.args.line.now) (told c.loop-buffer.line) (told c.word_at.new.line)
+    c.loop-buffer.texts.items (length c.as_slice.result.now)
     c.loop-buffer.invariant.kept (ap length c.as_slice.ensures.value) c.in_err-word.ensures.refused)
 
 pub loop-buffer-preserved : goal.loop-buffer-preserved
@@ -17,8 +18,10 @@ loop-buffer-preserved g c =
     let told = g.L.CommandLine.told in
     record {
       room = c.word_at.ensures.room;
-      kept = rw c.in_ok-push.ensures.items (one_kept string_bytes (told c.args.line.now) (told c.loop-buffer.line) (told c.word_at.new.line) c.loop-buffer.texts.items (length c.as_slice.result.now)
-          c.loop-buffer.invariant.kept (ap length c.as_slice.ensures.value) vec_items c.in_ok-word.field-0 c.in-Some.word c.in_ok-word.ensures.word c.in-Some.is c.text_of_word.result c.text_of_word.ensures);
+      kept = rw c.in_ok-push.ensures.items (one_kept string_bytes (told c.args.line.now) (told c.loop-buffer.line)
+          (told c.word_at.new.line) c.loop-buffer.texts.items (length c.as_slice.result.now)
+          c.loop-buffer.invariant.kept (ap length c.as_slice.ensures.value) vec_items c.in_ok-word.field-0
+          c.in-Some.word c.in_ok-word.ensures.word c.in-Some.is c.text_of_word.result c.text_of_word.ensures);
     }
 
 pub returns-in_err-push-clause-first : goal.returns-in_err-push-clause-first
@@ -27,7 +30,8 @@ returns-in_err-push-clause-first g c =
     on_err c.from_residual-in_err-push.result (
       c.loop-buffer.invariant.kept.0 ++ vec_items c.in-Some.word ∷ [],
       one_told string_bytes (told c.args.line.now) (told c.loop-buffer.line) (told c.word_at.new.line) c.loop-buffer.texts.items (length c.as_slice.result.now)
-          c.loop-buffer.invariant.kept (ap length c.as_slice.ensures.value) vec_items c.in_ok-word.field-0 c.in-Some.word c.in_ok-word.ensures.word c.in-Some.is,
+          c.loop-buffer.invariant.kept (ap length c.as_slice.ensures.value) vec_items c.in_ok-word.field-0
+          c.in-Some.word c.in_ok-word.ensures.word c.in-Some.is,
     )
 
 pub returns-in_err-resize-clause-memory : goal.returns-in_err-resize-clause-memory

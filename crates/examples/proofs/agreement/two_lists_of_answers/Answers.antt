@@ -9,7 +9,11 @@ returns-clause-same g c =
     (rw (sym c.requires.again) c.in_ok-second.ensures.all)
 
 pub returns-in_err-first-clause-refused : goal.returns-in_err-first-clause-refused
-returns-in_err-first-clause-refused g c = told_by_stopped g.D.TwoAdicSubgroupDft.facts _ _ _ _ _ c.from_residual.result _ c.from_residual.ensures c.in_err-first.ensures.room
+returns-in_err-first-clause-refused g c =
+    told_by_stopped g.D.TwoAdicSubgroupDft.facts _ _ _ _ _ c.from_residual.result _ c.from_residual.ensures
+    c.in_err-first.ensures.room
 
 pub returns-in_err-second-clause-refused : goal.returns-in_err-second-clause-refused
-returns-in_err-second-clause-refused g c = told_by_stopped g.E.TwoAdicSubgroupDft.facts _ _ _ _ _ c.from_residual-in_err-second.result _ c.from_residual-in_err-second.ensures c.in_err-second.ensures.room
+returns-in_err-second-clause-refused g c =
+    told_by_stopped g.E.TwoAdicSubgroupDft.facts _ _ _ _ _ c.from_residual-in_err-second.result _
+    c.from_residual-in_err-second.ensures c.in_err-second.ensures.room

@@ -18,7 +18,9 @@ use Rattle.examples.proofs.Refusals.{told_by_growth}
 use Rattle.examples.proofs.by_parts.coset_dft_by_parts.Goals as goal
 
 pub overflow_sub-log_rows : goal.overflow_sub-log_rows
-overflow_sub-log_rows g c = (part_sizes _ _ c.args.log_parts c.log_height-log_size.result c.requires.fits c.log_height-log_size.ensures.power c.requires.parts).fewer
+overflow_sub-log_rows g c =
+    (part_sizes _ _ c.args.log_parts c.log_height-log_size.result c.requires.fits c.log_height-log_size.ensures.power
+    c.requires.parts).fewer
 
 pub overflow_shl-parts : goal.overflow_shl-parts
 overflow_shl-parts g c =
@@ -62,7 +64,8 @@ coset_dft_batch-requires g c =
     let b = c.log_height-log_size.result - c.args.log_parts in
     let sizes = part_sizes _ _ c.args.log_parts c.log_height-log_size.result c.requires.fits c.log_height-log_size.ensures.power c.requires.parts in
     let width = ap₂ (λ (x y : ℕ). x * y) (one_shl b 64 (omega (arith, sizes.small))) c.width-width.ensures.width in
-    let is : c.new-wide.result ≡ wide_rows (2 ^ b) m = c.new-wide.ensures ∙ ap₂ (λ w vs. record { width = w; values = vs }) width c.into_values.ensures.values in
+    let is : c.new-wide.result ≡ wide_rows (2 ^ b) m =
+    c.new-wide.ensures ∙ ap₂ (λ w vs. record { width = w; values = vs }) width c.into_values.ensures.values in
     record { fits = subst (λ p. FitsDft g.F.TwoAdicField.TWO_ADICITY (height p) p.width) (sym is) (wide_fits g.F.Valued m sizes) }
 
 pub returns-in_err-points-clause-refused : goal.returns-in_err-points-clause-refused
@@ -80,10 +83,12 @@ transform_each_row-requires-clause-fits g c =
     let sizes = part_sizes _ _ a c.log_height-log_size.result c.requires.fits c.log_height-log_size.ensures.power c.requires.parts in
     let shifted = one_shl b 64 (omega (arith, sizes.small)) in
     let width = ap₂ (λ (x y : ℕ). x * y) shifted c.width-width.ensures.width in
-    let is : c.new-wide.result ≡ wide_rows (2 ^ b) m = c.new-wide.ensures ∙ ap₂ (λ w vs. record { width = w; values = vs }) width c.into_values.ensures.values in
+    let is : c.new-wide.result ≡ wide_rows (2 ^ b) m =
+    c.new-wide.ensures ∙ ap₂ (λ w vs. record { width = w; values = vs }) width c.into_values.ensures.values in
     let middle = c.to_row_major_matrix-wide.result in
     let first : IsTransform f gen (wide_rows (2 ^ b) m) (power f.ring (f.value c.args.shift) (2 ^ b)) middle =
-    transform_as f gen c.new-wide.result (wide_rows (2 ^ b) m) middle _ (power f.ring (f.value c.args.shift) (2 ^ b)) (f.value c.exp_power_of_2.result) is c.exp_power_of_2.ensures
+    transform_as f gen c.new-wide.result (wide_rows (2 ^ b) m) middle _ (power f.ring (f.value c.args.shift) (2 ^ b))
+    (f.value c.exp_power_of_2.result) is c.exp_power_of_2.ensures
     c.to_row_major_matrix-wide.ensures c.in_ok-coset_dft_batch.ensures.values in
     let shape = middle_shape f m sizes gen middle _ first in
     fits_dft_as _ _ _ _ _ (part_fits sizes)
@@ -99,10 +104,12 @@ transform_each_row-requires-clause-whole g c =
     let sizes = part_sizes _ _ a c.log_height-log_size.result c.requires.fits c.log_height-log_size.ensures.power c.requires.parts in
     let shifted = one_shl b 64 (omega (arith, sizes.small)) in
     let width = ap₂ (λ (x y : ℕ). x * y) shifted c.width-width.ensures.width in
-    let is : c.new-wide.result ≡ wide_rows (2 ^ b) m = c.new-wide.ensures ∙ ap₂ (λ w vs. record { width = w; values = vs }) width c.into_values.ensures.values in
+    let is : c.new-wide.result ≡ wide_rows (2 ^ b) m =
+    c.new-wide.ensures ∙ ap₂ (λ w vs. record { width = w; values = vs }) width c.into_values.ensures.values in
     let middle = c.to_row_major_matrix-wide.result in
     let first : IsTransform f gen (wide_rows (2 ^ b) m) (power f.ring (f.value c.args.shift) (2 ^ b)) middle =
-    transform_as f gen c.new-wide.result (wide_rows (2 ^ b) m) middle _ (power f.ring (f.value c.args.shift) (2 ^ b)) (f.value c.exp_power_of_2.result) is c.exp_power_of_2.ensures
+    transform_as f gen c.new-wide.result (wide_rows (2 ^ b) m) middle _ (power f.ring (f.value c.args.shift) (2 ^ b))
+    (f.value c.exp_power_of_2.result) is c.exp_power_of_2.ensures
     c.to_row_major_matrix-wide.ensures c.in_ok-coset_dft_batch.ensures.values in
     let shape = middle_shape f m sizes gen middle _ first in
     let some : 1 ≤ c.width-width.result = omega (arith, c.width-width.ensures.width, sizes.some) in
@@ -118,10 +125,12 @@ transform_each_row-requires-clause-shifts g c =
     let sizes = part_sizes _ _ a c.log_height-log_size.result c.requires.fits c.log_height-log_size.ensures.power c.requires.parts in
     let shifted = one_shl b 64 (omega (arith, sizes.small)) in
     let width = ap₂ (λ (x y : ℕ). x * y) shifted c.width-width.ensures.width in
-    let is : c.new-wide.result ≡ wide_rows (2 ^ b) m = c.new-wide.ensures ∙ ap₂ (λ w vs. record { width = w; values = vs }) width c.into_values.ensures.values in
+    let is : c.new-wide.result ≡ wide_rows (2 ^ b) m =
+    c.new-wide.ensures ∙ ap₂ (λ w vs. record { width = w; values = vs }) width c.into_values.ensures.values in
     let middle = c.to_row_major_matrix-wide.result in
     let first : IsTransform f gen (wide_rows (2 ^ b) m) (power f.ring (f.value c.args.shift) (2 ^ b)) middle =
-    transform_as f gen c.new-wide.result (wide_rows (2 ^ b) m) middle _ (power f.ring (f.value c.args.shift) (2 ^ b)) (f.value c.exp_power_of_2.result) is c.exp_power_of_2.ensures
+    transform_as f gen c.new-wide.result (wide_rows (2 ^ b) m) middle _ (power f.ring (f.value c.args.shift) (2 ^ b))
+    (f.value c.exp_power_of_2.result) is c.exp_power_of_2.ensures
     c.to_row_major_matrix-wide.ensures c.in_ok-coset_dft_batch.ensures.values in
     let shape = middle_shape f m sizes gen middle _ first in
     let count = one_shl a 64 (omega (arith, sizes.fewer, sizes.small)) in
@@ -137,10 +146,12 @@ interleave-requires-clause-some g c =
     let sizes = part_sizes _ _ a c.log_height-log_size.result c.requires.fits c.log_height-log_size.ensures.power c.requires.parts in
     let shifted = one_shl b 64 (omega (arith, sizes.small)) in
     let width = ap₂ (λ (x y : ℕ). x * y) shifted c.width-width.ensures.width in
-    let is : c.new-wide.result ≡ wide_rows (2 ^ b) m = c.new-wide.ensures ∙ ap₂ (λ w vs. record { width = w; values = vs }) width c.into_values.ensures.values in
+    let is : c.new-wide.result ≡ wide_rows (2 ^ b) m =
+    c.new-wide.ensures ∙ ap₂ (λ w vs. record { width = w; values = vs }) width c.into_values.ensures.values in
     let middle = c.to_row_major_matrix-wide.result in
     let first : IsTransform f gen (wide_rows (2 ^ b) m) (power f.ring (f.value c.args.shift) (2 ^ b)) middle =
-    transform_as f gen c.new-wide.result (wide_rows (2 ^ b) m) middle _ (power f.ring (f.value c.args.shift) (2 ^ b)) (f.value c.exp_power_of_2.result) is c.exp_power_of_2.ensures
+    transform_as f gen c.new-wide.result (wide_rows (2 ^ b) m) middle _ (power f.ring (f.value c.args.shift) (2 ^ b))
+    (f.value c.exp_power_of_2.result) is c.exp_power_of_2.ensures
     c.to_row_major_matrix-wide.ensures c.in_ok-coset_dft_batch.ensures.values in
     let shape = middle_shape f m sizes gen middle _ first in
     omega (arith, ap length c.deref-2.ensures.value, c.in_ok-parts.ensures.count, shape.0, pow_pos a)
@@ -155,10 +166,12 @@ interleave-requires-clause-size g c =
     let sizes = part_sizes _ _ a c.log_height-log_size.result c.requires.fits c.log_height-log_size.ensures.power c.requires.parts in
     let shifted = one_shl b 64 (omega (arith, sizes.small)) in
     let width = ap₂ (λ (x y : ℕ). x * y) shifted c.width-width.ensures.width in
-    let is : c.new-wide.result ≡ wide_rows (2 ^ b) m = c.new-wide.ensures ∙ ap₂ (λ w vs. record { width = w; values = vs }) width c.into_values.ensures.values in
+    let is : c.new-wide.result ≡ wide_rows (2 ^ b) m =
+    c.new-wide.ensures ∙ ap₂ (λ w vs. record { width = w; values = vs }) width c.into_values.ensures.values in
     let middle = c.to_row_major_matrix-wide.result in
     let first : IsTransform f gen (wide_rows (2 ^ b) m) (power f.ring (f.value c.args.shift) (2 ^ b)) middle =
-    transform_as f gen c.new-wide.result (wide_rows (2 ^ b) m) middle _ (power f.ring (f.value c.args.shift) (2 ^ b)) (f.value c.exp_power_of_2.result) is c.exp_power_of_2.ensures
+    transform_as f gen c.new-wide.result (wide_rows (2 ^ b) m) middle _ (power f.ring (f.value c.args.shift) (2 ^ b))
+    (f.value c.exp_power_of_2.result) is c.exp_power_of_2.ensures
     c.to_row_major_matrix-wide.ensures c.in_ok-coset_dft_batch.ensures.values in
     let shape = middle_shape f m sizes gen middle _ first in
     let count : length c.deref-2.result.now ≡ 2 ^ a = ap length c.deref-2.ensures.value ∙ c.in_ok-parts.ensures.count ∙ shape.0 in
@@ -175,10 +188,12 @@ interleave-requires-clause-shapes g c = λ i d below.
     let sizes = part_sizes _ _ a c.log_height-log_size.result c.requires.fits c.log_height-log_size.ensures.power c.requires.parts in
     let shifted = one_shl b 64 (omega (arith, sizes.small)) in
     let width = ap₂ (λ (x y : ℕ). x * y) shifted c.width-width.ensures.width in
-    let is : c.new-wide.result ≡ wide_rows (2 ^ b) m = c.new-wide.ensures ∙ ap₂ (λ w vs. record { width = w; values = vs }) width c.into_values.ensures.values in
+    let is : c.new-wide.result ≡ wide_rows (2 ^ b) m =
+    c.new-wide.ensures ∙ ap₂ (λ w vs. record { width = w; values = vs }) width c.into_values.ensures.values in
     let middle = c.to_row_major_matrix-wide.result in
     let first : IsTransform f gen (wide_rows (2 ^ b) m) (power f.ring (f.value c.args.shift) (2 ^ b)) middle =
-    transform_as f gen c.new-wide.result (wide_rows (2 ^ b) m) middle _ (power f.ring (f.value c.args.shift) (2 ^ b)) (f.value c.exp_power_of_2.result) is c.exp_power_of_2.ensures
+    transform_as f gen c.new-wide.result (wide_rows (2 ^ b) m) middle _ (power f.ring (f.value c.args.shift) (2 ^ b))
+    (f.value c.exp_power_of_2.result) is c.exp_power_of_2.ensures
     c.to_row_major_matrix-wide.ensures c.in_ok-coset_dft_batch.ensures.values in
     let shape = middle_shape f m sizes gen middle _ first in
     let w = c.width-width.result in
@@ -200,10 +215,12 @@ returns-clause-values g c =
     let sizes = part_sizes _ _ a c.log_height-log_size.result c.requires.fits c.log_height-log_size.ensures.power c.requires.parts in
     let shifted = one_shl b 64 (omega (arith, sizes.small)) in
     let width = ap₂ (λ (x y : ℕ). x * y) shifted c.width-width.ensures.width in
-    let is : c.new-wide.result ≡ wide_rows (2 ^ b) m = c.new-wide.ensures ∙ ap₂ (λ w vs. record { width = w; values = vs }) width c.into_values.ensures.values in
+    let is : c.new-wide.result ≡ wide_rows (2 ^ b) m =
+    c.new-wide.ensures ∙ ap₂ (λ w vs. record { width = w; values = vs }) width c.into_values.ensures.values in
     let middle = c.to_row_major_matrix-wide.result in
     let first : IsTransform f gen (wide_rows (2 ^ b) m) (power f.ring (f.value c.args.shift) (2 ^ b)) middle =
-    transform_as f gen c.new-wide.result (wide_rows (2 ^ b) m) middle _ (power f.ring (f.value c.args.shift) (2 ^ b)) (f.value c.exp_power_of_2.result) is c.exp_power_of_2.ensures
+    transform_as f gen c.new-wide.result (wide_rows (2 ^ b) m) middle _ (power f.ring (f.value c.args.shift) (2 ^ b))
+    (f.value c.exp_power_of_2.result) is c.exp_power_of_2.ensures
     c.to_row_major_matrix-wide.ensures c.in_ok-coset_dft_batch.ensures.values in
     let shape = middle_shape f m sizes gen middle _ first in
     let roots = λ (n : ℕ). f.value (gen n) in
@@ -222,7 +239,8 @@ returns-clause-values g c =
     let second : (i : ℕ) → i < 2 ^ a → IsTransform f gen (row_as_matrix m.width middle i) (point f.ring roots (a + b) s i) (parts i) =
     λ i below.
     transform_as f gen (row_as_matrix c.width-width.result middle i) (row_as_matrix m.width middle i) (parts i) (parts i) _ _
-    (ap (λ w. row_as_matrix w middle i) c.width-width.ensures.width) (point_at i below) refl (c.in_ok-parts.ensures.parts i m (omega (arith, below, shape.0))) in
+    (ap (λ w. row_as_matrix w middle i) c.width-width.ensures.width) (point_at i below) refl
+    (c.in_ok-parts.ensures.parts i m (omega (arith, below, shape.0))) in
     let count : length c.deref-2.result.now ≡ 2 ^ a = ap length c.deref-2.ensures.value ∙ c.in_ok-parts.ensures.count ∙ shape.0 in
     IfOk-weaker c.interleave.result _ _
     (λ out given.

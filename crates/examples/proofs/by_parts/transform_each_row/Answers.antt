@@ -30,7 +30,11 @@ coset_dft_batch-requires g c =
     let i = c.loop-i.i in
     let inside : i < height m = omega (arith, c.loop-i-test.true, c.height-i-end.ensures.height) in
     let long : length c.in_ok-from_slice.field-0.items ≡ m.width = ap length (c.in_ok-from_slice.ensures.items ∙ c.row.ensures) ∙ row_long m i inside in
-    record { fits = fits_dft_as _ _ _ _ _ c.requires.fits (ap height c.new-row.ensures ∙ ap (λ n. n / c.args.width) long) (ap (λ p. p.width) c.new-row.ensures) }
+    record {
+      fits =
+          fits_dft_as _ _ _ _ _ c.requires.fits (ap height c.new-row.ensures ∙ ap (λ n. n / c.args.width) long)
+          (ap (λ p. p.width) c.new-row.ensures);
+    }
 
 pub loop-i-preserved : goal.loop-i-preserved
 loop-i-preserved g c =
@@ -44,9 +48,12 @@ loop-i-preserved g c =
     let inside : i < height m = omega (arith, c.loop-i-test.true, c.height-i-end.ensures.height) in
     let read : c.index-shifts-i.result ≡ get_or c.args.shifts.now i f.zero =
     (get_or_read c.args.shifts.now i _ (omega (arith, inside, c.requires.shifts)) c.index-shifts-i.is f.zero) in
-    let is_part : c.new-row.result ≡ part i = c.new-row.ensures ∙ ap (λ xs. record { width = c.args.width; values = xs }) (c.in_ok-from_slice.ensures.items ∙ c.row.ensures) in
+    let is_part : c.new-row.result ≡ part i =
+    c.new-row.ensures
+    ∙ ap (λ xs. record { width = c.args.width; values = xs }) (c.in_ok-from_slice.ensures.items ∙ c.row.ensures) in
     let made : IsTransform f g.F.TwoAdicField.generator (part i) (shift i) c.to_row_major_matrix.result =
-    transform_as f g.F.TwoAdicField.generator c.new-row.result (part i) c.to_row_major_matrix.result _ (shift i) (f.value c.index-shifts-i.result) is_part (ap f.value read)
+    transform_as f g.F.TwoAdicField.generator c.new-row.result (part i) c.to_row_major_matrix.result _ (shift i)
+    (f.value c.index-shifts-i.result) is_part (ap f.value read)
     c.to_row_major_matrix.ensures c.in_ok-coset_dft_batch.ensures.values in
     record {
       long = omega (arith, before.long, c.push_reserved.ensures.len, c.loop-i.parts.ok.0, c.push_reserved.new.self.ok.0);

@@ -13,6 +13,9 @@ returns-clause-degree g c =
     IfOk-weaker c.fold.result _ _
     (λ out given k h tall has.
     given k h (height-embedded g.E.ExtensionField.embedded c.args.values.now ∙ tall)
-    (embedded_degree g.F.Valued g.E.Valued g.E.BasedVectorSpace g.F.TwoAdicField.generator g.E.TwoAdicField.generator g.E.ExtensionField.embedded g.E.ExtensionField.root g.E.ExtensionField.w
-    g.met.E.ExtensionField.extension_law (ap g.F.Valued.value (sym g.met.F.Field.same_zero) ∙ g.met.F.Field.zero_law) (ap g.E.Valued.value (sym g.met.E.Field.same_zero) ∙ g.met.E.Field.zero_law) c.args.layout h (suc k) c.args.shift c.args.values.now has))
+    (embedded_degree g.F.Valued g.E.Valued g.E.BasedVectorSpace g.F.TwoAdicField.generator g.E.TwoAdicField.generator
+    g.E.ExtensionField.embedded g.E.ExtensionField.root g.E.ExtensionField.w
+    g.met.E.ExtensionField.extension_law (ap g.F.Valued.value (sym g.met.F.Field.same_zero) ∙ g.met.F.Field.zero_law)
+    (ap g.E.Valued.value (sym g.met.E.Field.same_zero) ∙ g.met.E.Field.zero_law) c.args.layout h (suc k) c.args.shift
+    c.args.values.now has))
     (rw (c.in_ok-lifted.ensures.embedded, c.from_base.ensures) at c.fold.ensures.degree)

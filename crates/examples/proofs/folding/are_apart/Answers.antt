@@ -12,4 +12,5 @@ decided P false c x y is same fails = (λ told. absurd (true≢false (sym told �
 pub returns : goal.returns
 returns g c =
     let f = g.F.Valued in
-    decided (λ t. IsInvertible f.ring t) _ c.is_some.result (f.value c.sub.result) _ c.is_some.ensures (g.met.F.Field.sub_law _ _ _ c.sub.ensures) c.try_inverse.ensures.found
+    decided (λ t. IsInvertible f.ring t) _ c.is_some.result (f.value c.sub.result) _ c.is_some.ensures
+    (g.met.F.Field.sub_law _ _ _ c.sub.ensures) c.try_inverse.ensures.found

@@ -21,10 +21,13 @@ returns-clause-factors g c = λ i below.
     let xs = c.in_ok-factors.factors.items in
     let size : length xs ≡ 2 ^ k = omega (arith, c.in_ok-factors.ensures.long, c.requires.half, c.in_ok-factors.factors.ok.0) in
     -- where row i has the factor made at place p
-    let at = λ (p : ℕ) (inside : p < 2 ^ k) (place : pair_point c.args.layout k i ≡ p) (made : get_or c.match-layout.factors.items i f.zero ≡ get_or xs p f.zero).
+    let at =
+    λ (p : ℕ) (inside : p < 2 ^ k) (place : pair_point c.args.layout k i ≡ p)
+    (made : get_or c.match-layout.factors.items i f.zero ≡ get_or xs p f.zero).
     ap₂ (λ q y. f.ring.mul (two f.ring) (f.ring.mul (point f.ring roots (suc k) (f.value c.args.shift) q) (f.value y))) place made
     ∙ factor_at_point f.ring roots k p (f.value c.args.shift) (f.value c.inverse.result) u (f.value c.halve.result) (f.value c.args.beta) _ c.inverse.ensures
-    (ap (λ n. f.ring.mul (roots n) u) (sym (add-one k)) ∙ ap (λ y. f.ring.mul y u) (sym c.invertible_root.ensures.same) ∙ c.inverse-root.ensures) c.halve.ensures
+    (ap (λ n. f.ring.mul (roots n) u) (sym (add-one k)) ∙ ap (λ y. f.ring.mul y u) (sym c.invertible_root.ensures.same)
+    ∙ c.inverse-root.ensures) c.halve.ensures
     (c.in_ok-factors.ensures.powers p (omega (arith, inside, c.requires.half))
     ∙ ap₂ (λ a b. f.ring.mul (f.value a) (power f.ring (f.value b) p)) c.shifted_powers.ensures.start c.shifted_powers.ensures.base
     ∙ ap (λ y. f.ring.mul y (power f.ring u p)) (g.met.F.Field.mul_law _ _ _ c.mul-first.ensures)) in

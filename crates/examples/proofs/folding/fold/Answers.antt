@@ -7,7 +7,12 @@ use Rattle.examples.proofs.FoldedValues.{folded_values, half_height, half_of, ro
 use Rattle.examples.proofs.folding.fold.Goals as goal
 
 pub factors-requires-clause-within : goal.factors-requires-clause-within
-factors-requires-clause-within g c = omega (arith, (half_height _ _ c.log_height-log_half.ensures.power c.requires.pairs).0, c.log_height-log_half.ensures.within)
+factors-requires-clause-within g c =
+    omega (
+      arith,
+      (half_height _ _ c.log_height-log_half.ensures.power c.requires.pairs).0,
+      c.log_height-log_half.ensures.within,
+    )
 
 pub factors-requires-clause-half : goal.factors-requires-clause-half
 factors-requires-clause-half g c = omega (arith, (half_height _ _ c.log_height-log_half.ensures.power c.requires.pairs).1, c.height-half.ensures.height)
@@ -33,9 +38,14 @@ returns-clause-folded g c =
     (λ out given k high.
     let half = half_of _ k _ c.log_height-log_half.ensures.power high in
     let power = ap (λ n. n / 2) c.height-half.ensures.height ∙ half.1 in
-    let rows = rows_by_factors f.ring roots c.args.layout (f.value c.args.beta) k _ _ (f.value c.args.shift) (values_of f c.args.values.now) (values_of f out) _ _
-    half.0 power high given.0 given.1 c.in_ok-factors.ensures.factors (λ i. ap (λ xs. f.value (get_or xs i f.zero)) c.deref.ensures.value) (given.2 k (f.value c.args.beta) power) in
-    (folded_values f.ring roots (f.value c.args.beta) k (f.value c.args.shift) _ _ (exponent_within (suc k) c.requires.fits high) c.requires.invertible rows, rows))
+    let rows = rows_by_factors f.ring roots c.args.layout (f.value c.args.beta) k _ _ (f.value c.args.shift)
+    (values_of f c.args.values.now) (values_of f out) _ _
+    half.0 power high given.0 given.1 c.in_ok-factors.ensures.factors
+    (λ i. ap (λ xs. f.value (get_or xs i f.zero)) c.deref.ensures.value) (given.2 k (f.value c.args.beta) power) in (
+      folded_values f.ring roots (f.value c.args.beta) k (f.value c.args.shift) _ _
+          (exponent_within (suc k) c.requires.fits high) c.requires.invertible rows,
+      rows,
+    ))
     c.fold_rows.ensures.folded
 
 pub returns-clause-degree : goal.returns-clause-degree

@@ -36,7 +36,8 @@ loop-i-preserved g c =
       done = λ k beta power x factors.
           one_more_row
           (λ i j v.
-          IsFoldedPair f.ring beta (x i) ((values_of f m).entry (near_row c.args.layout k i) j) ((values_of f m).entry (far_row c.args.layout k i) j) (f.value v))
+          IsFoldedPair f.ring beta (x i) ((values_of f m).entry (near_row c.args.layout k i) j)
+          ((values_of f m).entry (far_row c.args.layout k i) j) (f.value v))
           old c.push_folded_row.new.folded.items f.zero c.loop-i.i c.width-width.result before.long (before.done k beta power x factors)
           (λ q below. c.push_folded_row.ensures.before q (omega (arith, below, had)))
           (λ j inside.
@@ -61,10 +62,14 @@ returns-clause-folded g c =
     let m = c.args.values.now in
     let all : c.loop-i.i ≡ c.args.half = omega (arith, c.loop-i-test.false, c.loop-i.auto.i-end) in (
       ap (λ o. length o.values / o.width) c.new.ensures
-          ∙ (whole_rows _ c.loop-i.i c.width-width.result (omega (arith, c.width-width.ensures.whole.width, c.width-width.ensures.width)) c.loop-i.invariant.long).0 ∙ all,
+          ∙ (whole_rows _ c.loop-i.i c.width-width.result
+          (omega (arith, c.width-width.ensures.whole.width, c.width-width.ensures.width)) c.loop-i.invariant.long).0
+          ∙ all,
       ap (λ o. o.width) c.new.ensures ∙ c.width-width.ensures.width,
       λ k beta power x factors i j below inside.
-          subst (λ o. IsFoldedPair f.ring beta (x i) ((values_of f m).entry (near_row c.args.layout k i) j) ((values_of f m).entry (far_row c.args.layout k i) j) (f.value (get_or o.values (i * o.width + j) f.zero)))
+          subst (λ o. IsFoldedPair f.ring beta (x i) ((values_of f m).entry (near_row c.args.layout k i) j)
+          ((values_of f m).entry (far_row c.args.layout k i) j)
+          (f.value (get_or o.values (i * o.width + j) f.zero)))
           (sym c.new.ensures)
           (c.loop-i.invariant.done k beta power x factors i j (omega (arith, below, all)) (omega (arith, inside, c.width-width.ensures.width))),
     )

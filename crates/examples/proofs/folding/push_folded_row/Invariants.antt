@@ -12,5 +12,6 @@ invariant-loop-j g l =
       room : vec_capacity l.folded ≡ vec_capacity l.fn.folded;
       before : (i : ℕ) → i < length l.fn.folded.items → get_or l.folded.items i f.zero ≡ get_or l.fn.folded.items i f.zero;
       row : (beta x : f.Element) → f.ring.mul (two f.ring) (f.ring.mul x (f.value l.factor)) ≡ beta → (j : ℕ) → j < l.j
-          → IsFoldedPair f.ring beta x (f.value (get_or l.near j f.zero)) (f.value (get_or l.far j f.zero)) (f.value (get_or l.folded.items (length l.fn.folded.items + j) f.zero));
+          → IsFoldedPair f.ring beta x (f.value (get_or l.near j f.zero)) (f.value (get_or l.far j f.zero))
+          (f.value (get_or l.folded.items (length l.fn.folded.items + j) f.zero));
     }

@@ -10,7 +10,10 @@ loop-l-preserved g c = λ q o below.
       | inl less ↦ c.loop-l.invariant q o less
       | inr more ↦
           let here : q ≡ c.loop-l.l = omega (arith, below, more) in
-          rw here (λ between. (c.layer_folds.ensures.between o between).0 c.if-not-layer_folds.false, λ last. (c.layer_folds.ensures.to_last o last).0 c.if-not-layer_folds.false)
+          rw here (
+            λ between. (c.layer_folds.ensures.between o between).0 c.if-not-layer_folds.false,
+            λ last. (c.layer_folds.ensures.to_last o last).0 c.if-not-layer_folds.false,
+          )
     ]
 
 pub returns : goal.returns

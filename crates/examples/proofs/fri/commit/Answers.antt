@@ -57,7 +57,12 @@ pub index-requires : goal.index-requires
 index-requires g c =
     let k = c.args.log_height - suc c.loop-fold._fold in
     let log : c.args.log_height - c.loop-fold._fold ≡ suc k = omega (arith, c.loop-fold-test.true, c.requires.folds) in
-    omega (arith, (c.in_ok-layer.ensures.layer k (c.loop-fold.invariant.last_height ∙ ap (λ n. 2 ^ n) log)).tree.long, pow_pos k, c.in_ok-layer.layer.nodes.ok.0)
+    omega (
+      arith,
+      (c.in_ok-layer.ensures.layer k (c.loop-fold.invariant.last_height ∙ ap (λ n. 2 ^ n) log)).tree.long,
+      pow_pos k,
+      c.in_ok-layer.layer.nodes.ok.0,
+    )
 
 pub loop-fold-preserved : goal.loop-fold-preserved
 loop-fold-preserved g c =
@@ -85,12 +90,23 @@ loop-fold-preserved g c =
     let challenges_long = ap length before.challenges ∙ length-map old (λ y. y.challenge) ∙ before.layers_long in
     let root = λ (d : _). get_or_read layer.nodes.items _ _ (omega (arith, is.tree.long, pow_pos k)) c.index.ensures d in
     let pushed = layers_pushed f gen hash.worth (hash.of_pair c.args.hash.now) (hash.of_row c.args.hash.now) c.args.log_height (f.value c.args.shift) fold
-    c.loop-fold.challenges.items (map (λ y. y.codeword) old) (map (λ y. y.nodes.items) old) layer.challenge c.loop-fold.last next layer.nodes.items challenges_long codewords_long nodes_long before.layers
-    (subst (λ s. IsLayer f gen hash.worth (hash.of_pair c.args.hash.now) (hash.of_row c.args.hash.now) k s (f.value layer.challenge) c.loop-fold.last next layer.nodes.items) before.shift is) in
+    c.loop-fold.challenges.items (map (λ y. y.codeword) old) (map (λ y. y.nodes.items) old) layer.challenge
+    c.loop-fold.last next layer.nodes.items challenges_long codewords_long nodes_long before.layers
+    (subst (λ s. IsLayer f gen hash.worth (hash.of_pair c.args.hash.now) (hash.of_row c.args.hash.now) k s
+    (f.value layer.challenge) c.loop-fold.last next layer.nodes.items) before.shift is) in
     record {
-      layers_long = omega (arith, before.layers_long, c.push_reserved-in-loop-fold-2.ensures.len, c.loop-fold.layers.ok.0, c.push_reserved-in-loop-fold-2.new.self.ok.0);
+      layers_long =
+          omega (
+            arith,
+            before.layers_long,
+            c.push_reserved-in-loop-fold-2.ensures.len,
+            c.loop-fold.layers.ok.0,
+            c.push_reserved-in-loop-fold-2.new.self.ok.0,
+          );
       roots_long = omega (arith, before.roots_long, c.push_reserved.ensures.len, c.loop-fold.roots.ok.0, c.push_reserved.new.self.ok.0);
-      challenges = challenges_are ∙ ap (λ bs. bs ++ layer.challenge ∷ []) before.challenges ∙ sym (ap (map (λ y. y.challenge)) items ∙ map_push (λ y. y.challenge) old layer);
+      challenges =
+          challenges_are ∙ ap (λ bs. bs ++ layer.challenge ∷ []) before.challenges
+          ∙ sym (ap (map (λ y. y.challenge)) items ∙ map_push (λ y. y.challenge) old layer);
       layers_room = omega (arith, before.layers_room, c.push_reserved-in-loop-fold-2.ensures.capacity);
       roots_room = omega (arith, before.roots_room, c.push_reserved.ensures.capacity);
       challenges_room = omega (arith, before.challenges_room, c.push_reserved-in-loop-fold.ensures.capacity);
@@ -105,14 +121,20 @@ loop-fold-preserved g c =
           let cases = cases_lt q fold in
           elim cases [
             | inl less ↦
-                ap (λ xs. get_or xs q d) roots_are ∙ get_or-append c.loop-fold.roots.items _ d q (omega (arith, less, before.roots_long)) ∙ before.roots q d less
-                ∙ sym (ap (λ xs. get_or xs 1 d) (ap (λ ns. get_or ns q []) nodes_are ∙ get_or-append (map (λ y. y.nodes.items) old) _ [] q (omega (arith, less, nodes_long))))
+                ap (λ xs. get_or xs q d) roots_are
+                ∙ get_or-append c.loop-fold.roots.items _ d q (omega (arith, less, before.roots_long))
+                ∙ before.roots q d less
+                ∙ sym (ap (λ xs. get_or xs 1 d) (ap (λ ns. get_or ns q []) nodes_are
+                ∙ get_or-append (map (λ y. y.nodes.items) old) _ [] q (omega (arith, less, nodes_long))))
             | inr more ↦
                 let here : fold ≡ q = omega (arith, below, more) in
                 ap (λ xs. get_or xs q d) roots_are ∙ get_or_push c.loop-fold.roots.items _ d q (before.roots_long ∙ here) ∙ root d
                 ∙ sym (ap (λ xs. get_or xs 1 d) (ap (λ ns. get_or ns q []) nodes_are ∙ get_or_push (map (λ y. y.nodes.items) old) _ [] q (nodes_long ∙ here)))
           ];
-      drawn = rw items (FoldsTo-push (λ t y u. (root : _) × (root ≡ get_or y.nodes.items 1 root) × g.T.Transcript.draws t root y.challenge u) c.args.transcript.now old c.loop-fold.transcript layer c.commit_layer.new.transcript before.drawn told.drawn);
+      drawn =
+          rw items (FoldsTo-push
+          (λ t y u. (root : _) × (root ≡ get_or y.nodes.items 1 root) × g.T.Transcript.draws t root y.challenge u)
+          c.args.transcript.now old c.loop-fold.transcript layer c.commit_layer.new.transcript before.drawn told.drawn);
     }
 
 pub returns-clause-shapes : goal.returns-clause-shapes
@@ -127,7 +149,11 @@ pub returns-in_err-layers-clause-refused : goal.returns-in_err-layers-clause-ref
 returns-in_err-layers-clause-refused g c = told_by_growth c.from_residual.result _ _ _ c.from_residual.ensures c.in_err-layers.ensures.room
 
 pub returns-in_err-roots-clause-refused : goal.returns-in_err-roots-clause-refused
-returns-in_err-roots-clause-refused g c = told_by_growth c.from_residual-in_err-roots.result _ _ _ c.from_residual-in_err-roots.ensures c.in_err-roots.ensures.room
+returns-in_err-roots-clause-refused g c =
+    told_by_growth c.from_residual-in_err-roots.result _ _ _ c.from_residual-in_err-roots.ensures
+    c.in_err-roots.ensures.room
 
 pub returns-in_err-challenges-clause-refused : goal.returns-in_err-challenges-clause-refused
-returns-in_err-challenges-clause-refused g c = told_by_growth c.from_residual-in_err-challenges.result _ _ _ c.from_residual-in_err-challenges.ensures c.in_err-challenges.ensures.room
+returns-in_err-challenges-clause-refused g c =
+    told_by_growth c.from_residual-in_err-challenges.result _ _ _ c.from_residual-in_err-challenges.ensures
+    c.in_err-challenges.ensures.room

@@ -25,8 +25,11 @@ invariant-loop-fold g l =
       shift : f.value l.last_shift ≡ power f.ring (f.value l.shift) (2 ^ l._fold);
       invertible : IsInvertible f.ring (f.value l.last_shift);
       first : get_or codewords 0 l.last ≡ l.fn.codeword;
-      layers : AreLayers f (λ n. f.value (g.F.TwoAdicField.generator n)) hash.worth (hash.of_pair l.hash) (hash.of_row l.hash) l.log_height l._fold (f.value l.shift)
+      layers : AreLayers f (λ n. f.value (g.F.TwoAdicField.generator n)) hash.worth (hash.of_pair l.hash)
+          (hash.of_row l.hash) l.log_height l._fold (f.value l.shift)
           (λ q. f.value (get_or l.challenges.items q f.zero)) (λ q. get_or codewords q l.last) (λ q. get_or nodes q []);
       roots : (q : ℕ) (d : _) → q < l._fold → get_or l.roots.items q d ≡ get_or (get_or nodes q []) 1 d;
-      drawn : FoldsTo (λ t y u. (root : _) × (root ≡ get_or y.nodes.items 1 root) × g.T.Transcript.draws t root y.challenge u) l.fn.transcript l.layers.items l.transcript;
+      drawn : FoldsTo
+          (λ t y u. (root : _) × (root ≡ get_or y.nodes.items 1 root) × g.T.Transcript.draws t root y.challenge u)
+          l.fn.transcript l.layers.items l.transcript;
     }

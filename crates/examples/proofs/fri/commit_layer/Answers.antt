@@ -14,6 +14,9 @@ returns-clause-layer g c = λ k high.
     let half : c.height-leaves.result / 2 ≡ 2 ^ k = omega (arith, c.height-leaves.ensures.height, high, two-pow-succ k) in
     record {
       height = high;
-      tree = subst (λ n. AreNodes hash.worth (hash.of_pair c.args.hash.now) n (λ i. hash.of_row c.args.hash.now (rows_from c.args.codeword (2 * i) 2).values) c.in_ok-nodes.nodes.items) half c.in_ok-nodes.ensures.nodes;
+      tree =
+          subst (λ n. AreNodes hash.worth (hash.of_pair c.args.hash.now) n
+          (λ i. hash.of_row c.args.hash.now (rows_from c.args.codeword (2 * i) 2).values) c.in_ok-nodes.nodes.items)
+          half c.in_ok-nodes.ensures.nodes;
       folds = (c.in_ok-folded.ensures.folded k high).1;
     }

@@ -23,7 +23,9 @@ returns-clause-accepted g c =
       λ l o d below.
           let inside : l < c.args.folds = omega (arith, below, count, count_too) in
           rw (openings, told.known.0, told.roots l d inside, sym layers)
-          (opened.opened c.args.hash.now (f.value c.args.shift) betas known.last (λ q less. rw layers (told.layers q (omega (arith, less, count)))) l o d (omega (arith, below, count_too))),
+          (opened.opened c.args.hash.now (f.value c.args.shift) betas known.last
+          (λ q less. rw layers (told.layers q (omega (arith, less, count)))) l o d
+          (omega (arith, below, count_too))),
       λ o.
           rw (count_too, openings, told.known.0, told.known.1)
           (opened.folds c.args.hash.now (f.value c.args.shift) betas known.last (λ q less. rw layers (told.layers q (omega (arith, less, count)))) o),

@@ -18,10 +18,17 @@ returns-then-l-openings-clause-between g c = λ o below.
     let one : c.args.l + 1 ≡ suc c.args.l = omega arith in
     let log : c.args.commitment.now.log_height - suc c.args.l ≡ c.args.commitment.now.log_height - 1 - c.args.l = omega arith in
     let opening = get_or_read c.args.openings.now _ _ c.requires.at c.index-openings-l.is o in
-    let next = get_or_read c.args.openings.now _ _ c.if-l-openings.true c.index-openings-l-then-l-openings.is o ∙ ap (λ n. get_or c.args.openings.now n o) one in
-    let challenge = get_or_read c.args.commitment.now.challenges.items _ _ (omega (arith, c.requires.at, c.requires.challenges, c.args.commitment.now.challenges.ok.0)) c.index-challenge.ensures f.zero in
+    let next =
+    get_or_read c.args.openings.now _ _ c.if-l-openings.true c.index-openings-l-then-l-openings.is o
+    ∙ ap (λ n. get_or c.args.openings.now n o) one in
+    let challenge =
+    get_or_read c.args.commitment.now.challenges.items _ _
+    (omega (arith, c.requires.at, c.requires.challenges, c.args.commitment.now.challenges.ok.0))
+    c.index-challenge.ensures f.zero in
     let shift : f.value c.exp_u64-shift.result ≡ power f.ring (f.value c.args.commitment.now.shift) (2 ^ c.args.l) =
-    c.exp_u64-shift.ensures ∙ ap (power f.ring (f.value c.args.commitment.now.shift)) (one_shl c.args.l 64 (omega (arith, c.requires.at, c.requires.layers, c.requires.fits_u64))) in
+    c.exp_u64-shift.ensures
+    ∙ ap (power f.ring (f.value c.args.commitment.now.shift))
+    (one_shl c.args.l 64 (omega (arith, c.requires.at, c.requires.layers, c.requires.fits_u64))) in
     rw (log, sym opening ∙ c.index-openings-l.is, sym next ∙ c.index-openings-l-then-l-openings.is, sym challenge, sym shift) c.is_folded.ensures
 
 pub returns-else-l-openings-clause-to_last : goal.returns-else-l-openings-clause-to_last
@@ -29,7 +36,12 @@ returns-else-l-openings-clause-to_last g c = λ o last.
     let f = g.F.Valued in
     let log : c.args.commitment.now.log_height - suc c.args.l ≡ c.args.commitment.now.log_height - 1 - c.args.l = omega arith in
     let opening = get_or_read c.args.openings.now _ _ c.requires.at c.index-openings-l.is o in
-    let challenge = get_or_read c.args.commitment.now.challenges.items _ _ (omega (arith, c.requires.at, c.requires.challenges, c.args.commitment.now.challenges.ok.0)) c.index-challenge.ensures f.zero in
+    let challenge =
+    get_or_read c.args.commitment.now.challenges.items _ _
+    (omega (arith, c.requires.at, c.requires.challenges, c.args.commitment.now.challenges.ok.0))
+    c.index-challenge.ensures f.zero in
     let shift : f.value c.exp_u64-shift.result ≡ power f.ring (f.value c.args.commitment.now.shift) (2 ^ c.args.l) =
-    c.exp_u64-shift.ensures ∙ ap (power f.ring (f.value c.args.commitment.now.shift)) (one_shl c.args.l 64 (omega (arith, c.requires.at, c.requires.layers, c.requires.fits_u64))) in
+    c.exp_u64-shift.ensures
+    ∙ ap (power f.ring (f.value c.args.commitment.now.shift))
+    (one_shl c.args.l 64 (omega (arith, c.requires.at, c.requires.layers, c.requires.fits_u64))) in
     rw (log, sym opening ∙ c.index-openings-l.is, sym challenge, sym shift) c.is_folded-else-l-openings.ensures

@@ -18,7 +18,9 @@ pub loop-l-preserved : goal.loop-l-preserved
 loop-l-preserved g c =
     let before = c.loop-l.invariant in
     let told = c.in_ok-opening.ensures in
-    let kept = λ (q : ℕ) (o : _) (less : q < c.loop-l.l). ap (λ xs. get_or xs q o) c.push_reserved.ensures.items ∙ get_or-append c.loop-l.openings.items _ o q (omega (arith, less, before.long)) in
+    let kept =
+    λ (q : ℕ) (o : _) (less : q < c.loop-l.l). ap (λ xs. get_or xs q o) c.push_reserved.ensures.items
+    ∙ get_or-append c.loop-l.openings.items _ o q (omega (arith, less, before.long)) in
     let new = λ (o : _). ap (λ xs. get_or xs c.loop-l.l o) c.push_reserved.ensures.items ∙ get_or_push c.loop-l.openings.items _ o c.loop-l.l before.long in
     let read = λ (y : _). sym (get_or_read c.args.layers.now _ _ c.loop-l-test.true c.index-layers-l.is y) in
     let log : c.args.log_height - suc c.loop-l.l ≡ c.args.log_height - 1 - c.loop-l.l = omega arith in
@@ -73,7 +75,9 @@ returns-clause-opened g c = λ h s betas last are l o d below.
     let nodes = get_or-map (λ y. y.nodes.items) layers l y [] below in
     let rest : l + (length layers - l) ≡ length layers = omega (arith, below) in
     let wide = ap (λ m. m.width) (sym codeword)
-    ∙ width_of_layer f gen hash.worth (hash.of_pair h) (hash.of_row h) c.args.log_height s (length layers) betas (λ q. get_or (map (λ y. y.codeword) layers) q last) (λ q. get_or (map (λ y. y.nodes.items) layers) q []) are (length layers - l) l rest
+    ∙ width_of_layer f gen hash.worth (hash.of_pair h) (hash.of_row h) c.args.log_height s (length layers) betas
+    (λ q. get_or (map (λ y. y.codeword) layers) q last) (λ q. get_or (map (λ y. y.nodes.items) layers) q []) are
+    (length layers - l) l rest
     ∙ ap (λ m. m.width) (behind_map (λ y. y.codeword) layers last) in
     let here = are l below in
     rw (sym wide, nodes) (c.loop-l.invariant.opened l y o (omega (arith, below, c.loop-l-test.false)) h _ _ _ d (rw (codeword, nodes) at here))
@@ -92,12 +96,14 @@ returns-clause-folds g c = λ h s betas last are o.
     let within = λ (l : ℕ) (below : l < n). let e : l < c.loop-l.l = omega (arith, below, c.loop-l-test.false) in e in
     let codeword = λ (l : ℕ) (below : l < n). get_or-map (λ y. y.codeword) layers l (some_element layers l below) last below in
     let tree = λ (l : ℕ) (below : l < n). get_or-map (λ y. y.nodes.items) layers l (some_element layers l below) [] below in
-    subst (λ m. FoldsDown f gen c.args.log_height n s betas c.args.index (λ q. values_of f (pairs q)) (values_of f m)) (behind_map (λ y. y.codeword) layers last)
+    subst (λ m. FoldsDown f gen c.args.log_height n s betas c.args.index (λ q. values_of f (pairs q)) (values_of f m))
+    (behind_map (λ y. y.codeword) layers last)
     (pairs_fold f gen hash.worth (hash.of_pair h) (hash.of_row h) c.args.log_height s n betas codewords nodes are c.args.index pairs
     (λ l below.
     let here = are l below in
     let d = some_element (nodes l) 0 (omega (arith, here.tree.long, pow_pos (c.args.log_height - suc l))) in
-    (inv.opened l (some_element layers l below) o (within l below) h _ _ _ d (rw (codeword l below, tree l below) at here)).width ∙ ap (λ m. m.width) (sym (codeword l below)))
+    (inv.opened l (some_element layers l below) o (within l below) h _ _ _ d
+    (rw (codeword l below, tree l below) at here)).width ∙ ap (λ m. m.width) (sym (codeword l below)))
     (λ l r j below inside in_row.
     rw (codeword l below) (inv.entries l (some_element layers l below) o r j (within l below) inside (rw (codeword l below) at in_row)))
     (λ l below.

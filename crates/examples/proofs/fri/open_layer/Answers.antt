@@ -15,9 +15,14 @@ returns-clause-entries g c = λ r j inside in_row.
     let m = c.args.layer.now.codeword in
     let i = c.args.index in
     let pair_is : c.new-pair.result ≡ rows_from m (2 * i) 2 = search rules in
-    let high : height m ≡ 2 ^ suc c.args.log_half = c.requires.height ∙ (let twice : 2 * 2 ^ c.args.log_half ≡ 2 ^ suc c.args.log_half = omega (arith, two-pow-succ c.args.log_half) in twice) in
+    let high : height m ≡ 2 ^ suc c.args.log_half =
+    c.requires.height
+    ∙ (let twice : 2 * 2 ^ c.args.log_half ≡ 2 ^ suc c.args.log_half =
+    omega (arith, two-pow-succ c.args.log_half) in
+    twice) in
     ap (λ p. (values_of f p).entry r j) pair_is
-    ∙ entries_of_pair f m c.allocator-alloc.ensures.whole c.args.log_half i high c.requires.inside (subst IsRowMajor c.view_rows-rows.ensures c.values.ensures.whole) r j inside in_row
+    ∙ entries_of_pair f m c.allocator-alloc.ensures.whole c.args.log_half i high c.requires.inside
+    (subst IsRowMajor c.view_rows-rows.ensures c.values.ensures.whole) r j inside in_row
 
 pub returns-clause-opened : goal.returns-clause-opened
 returns-clause-opened g c = λ h s beta next d is.
@@ -43,7 +48,8 @@ returns-clause-folds g c = λ h s beta next is.
     let i = c.args.index in
     let pair_is : c.new-pair.result ≡ rows_from m (2 * i) 2 = search rules in
     subst (λ p. FoldsTo f gen c.args.log_half s beta i (values_of f p) ((values_of f next).entry i)) (sym pair_is)
-    (pair_folds f m c.allocator-alloc.ensures.whole c.args.log_half i is.height c.requires.inside gen beta s next (subst IsRowMajor c.view_rows-rows.ensures c.values.ensures.whole) is.folds)
+    (pair_folds f m c.allocator-alloc.ensures.whole c.args.log_half i is.height c.requires.inside gen beta s next
+    (subst IsRowMajor c.view_rows-rows.ensures c.values.ensures.whole) is.folds)
 
 pub returns-in_err-from_slice-clause-refused : goal.returns-in_err-from_slice-clause-refused
 returns-in_err-from_slice-clause-refused g c = told_by_growth c.from_residual.result _ _ _ c.from_residual.ensures c.in_err-from_slice.ensures.room

@@ -5,7 +5,8 @@ use Rattle.examples.proofs.linearity.extensions_of_a_column.Goals as goal
 pub returns-clause-column : goal.returns-clause-column
 returns-clause-column g c =
     extension_of_column g.F.Valued g.F.TwoAdicField.generator g.met.F.TwoAdicField.roots_law c.args.mat c.args.column c.args.j g.F.Valued.ring.one
-    (input_fits _ _ _ _ c.requires.fits) c.requires.inside c.requires.column c.args.added_bits c.to_row_major_matrix-whole.result c.to_row_major_matrix-one.result
+    (input_fits _ _ _ _ c.requires.fits) c.requires.inside c.requires.column c.args.added_bits
+    c.to_row_major_matrix-whole.result c.to_row_major_matrix-one.result
     (rw c.to_row_major_matrix-whole.ensures c.in_ok-lde_batch.ensures.values) (rw c.to_row_major_matrix-one.ensures c.in_ok-lde_batch-2.ensures.values)
 
 pub returns-clause-whole : goal.returns-clause-whole

@@ -3,9 +3,12 @@ use Rattle.examples.proofs.linearity.transforms_of_a_sum.Goals as goal
 
 pub returns-clause-sum : goal.returns-clause-sum
 returns-clause-sum g c =
-    transform_of_combination g.F.Valued g.F.TwoAdicField.generator g.met.F.TwoAdicField.roots_law _ _ _ (g.F.Valued.value c.args.a) (g.F.Valued.value c.args.b) (g.F.Valued.value c.args.shift)
-    c.requires.fits c.requires.shape.0 c.requires.shape.1 c.requires.sum c.to_row_major_matrix-first.result c.to_row_major_matrix-second.result c.to_row_major_matrix-sum.result
-    (rw c.to_row_major_matrix-first.ensures c.in_ok-coset_dft_batch.ensures.values) (rw c.to_row_major_matrix-second.ensures c.in_ok-coset_dft_batch-2.ensures.values)
+    transform_of_combination g.F.Valued g.F.TwoAdicField.generator g.met.F.TwoAdicField.roots_law _ _ _
+    (g.F.Valued.value c.args.a) (g.F.Valued.value c.args.b) (g.F.Valued.value c.args.shift)
+    c.requires.fits c.requires.shape.0 c.requires.shape.1 c.requires.sum c.to_row_major_matrix-first.result
+    c.to_row_major_matrix-second.result c.to_row_major_matrix-sum.result
+    (rw c.to_row_major_matrix-first.ensures c.in_ok-coset_dft_batch.ensures.values)
+    (rw c.to_row_major_matrix-second.ensures c.in_ok-coset_dft_batch-2.ensures.values)
     (rw c.to_row_major_matrix-sum.ensures c.in_ok-coset_dft_batch-3.ensures.values)
 
 pub returns-clause-first : goal.returns-clause-first

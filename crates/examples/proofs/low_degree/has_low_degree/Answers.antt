@@ -35,5 +35,7 @@ returns-clause-exact g c k high =
     let log : c.log2_strict_usize-log_points.result ≡ k = log_same _ k (sym points ∙ high) in
     let all = degree_added c.args.log_degree c.log2_strict_usize-log_points.result degree ∙ log in
     IfOk-weaker c.is_codeword-told.result _ _
-    (λ told exact. subst (λ (n : ℕ). IsTrue told ↔ HasDegreeBelow g.F.Valued g.F.TwoAdicField.generator (2 ^ c.args.log_degree) n (g.F.Valued.value c.args.shift) (values_of g.F.Valued c.args.values.now)) all exact)
+    (λ told exact. subst (λ (n : ℕ). IsTrue told
+    ↔ HasDegreeBelow g.F.Valued g.F.TwoAdicField.generator (2 ^ c.args.log_degree) n
+    (g.F.Valued.value c.args.shift) (values_of g.F.Valued c.args.values.now)) all exact)
     (rw c.new-code.ensures at c.is_codeword-told.ensures.exact)

@@ -33,11 +33,18 @@ loop-level-preserved g c =
           let now = before.place (suc m) (omega (arith, more)) in
           (omega (arith, now.0, two-pow-succ m), omega (arith, now.1, two-pow-succ (suc m)));
       leads = λ h digest d rest are leads.
-          ap (λ path. climbed (g.H.RowHash.of_pair h) (2 ^ c.args.log_leaves + c.args.leaf) (digest c.args.leaf) (map g.H.RowHash.worth path ++ rest)) c.push_reserved.ensures.items
-          ∙ ap (climbed (g.H.RowHash.of_pair h) (2 ^ c.args.log_leaves + c.args.leaf) (digest c.args.leaf)) (map_pushed g.H.RowHash.worth c.loop-level.path.items _ rest)
+          ap (λ path. climbed (g.H.RowHash.of_pair h) (2 ^ c.args.log_leaves + c.args.leaf) (digest c.args.leaf)
+          (map g.H.RowHash.worth path ++ rest)) c.push_reserved.ensures.items
+          ∙ ap (climbed (g.H.RowHash.of_pair h) (2 ^ c.args.log_leaves + c.args.leaf) (digest c.args.leaf))
+          (map_pushed g.H.RowHash.worth c.loop-level.path.items _ rest)
           ∙ before.leads h digest d _ are
           (one_step are d c.loop-level.node c.sibling_of.result _ rest _ some before.inside c.sibling_of.ensures.even c.sibling_of.ensures.odd
-          (get_or_read c.args.nodes.now _ _ (omega (arith, c.requires.size, sibling_inside _ _ _ some before.inside c.sibling_of.ensures.even c.sibling_of.ensures.odd)) c.index-nodes-sibling_of.is d) leads);
+          (get_or_read c.args.nodes.now _ _ (omega (
+            arith,
+            c.requires.size,
+            sibling_inside _ _ _ some before.inside
+                c.sibling_of.ensures.even c.sibling_of.ensures.odd,
+          )) c.index-nodes-sibling_of.is d) leads);
     }
 
 pub returns-clause-leads : goal.returns-clause-leads
@@ -46,5 +53,6 @@ returns-clause-leads g c = λ h digest d are.
     let all : c.loop-level._level ≡ c.args.log_leaves = omega (arith, c.loop-level-test.false, c.loop-level.auto._level-end) in
     let place = before.place 0 (omega (arith, all)) in
     let root : c.loop-level.node ≡ 1 = omega (arith, place.0, place.1) in
-    ap (climbed (g.H.RowHash.of_pair h) (2 ^ c.args.log_leaves + c.args.leaf) (digest c.args.leaf)) (sym (append-nil (map g.H.RowHash.worth c.loop-level.path.items)))
+    ap (climbed (g.H.RowHash.of_pair h) (2 ^ c.args.log_leaves + c.args.leaf) (digest c.args.leaf))
+    (sym (append-nil (map g.H.RowHash.worth c.loop-level.path.items)))
     ∙ before.leads h digest d [] are (ap (λ n. g.H.RowHash.worth (get_or c.args.nodes.now n d)) root)

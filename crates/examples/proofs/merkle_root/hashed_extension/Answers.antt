@@ -17,12 +17,19 @@ returns-clause-leaves g c =
     let k = c.requires.log in
     let a = c.args.added_bits in
     let out = c.in_ok-rows.rows.physical in
-    let tall = physical_height field c.in_ok-rows.rows.bits (k + a) out _ c.height-whole.ensures.whole (sym c.height-whole.ensures.height ∙ c.height-whole.ensures.power) refl
+    let tall = physical_height field c.in_ok-rows.rows.bits (k + a) out _ c.height-whole.ensures.whole
+    (sym c.height-whole.ensures.height ∙ c.height-whole.ensures.power) refl
     (c.in_ok-rows.ensures.values.extended k c.requires.height).height in
     let count = counted _ _ k a (height out) c.extended_height-count.ensures.height (c.height.ensures.height ∙ c.requires.height) tall in
     let made_long : length c.resize.new.items.items ≡ c.extended_height-count.result = omega (arith, c.in_ok-resize.ensures.len, c.resize.new.items.ok.0) in
     all_hashed _ g.H.RowHash.worth (g.H.RowHash.of_row hash) (λ s. s.digests.items) (λ s. s.hash.now ≡ hash)
-    (λ s start rows n right told.
-    (told.1 ∙ right, subst (λ h. AreHashed g.H.RowHash.worth (λ r. g.H.RowHash.of_row h (row rows r)) start (height rows) s.digests.items n.digests.items) right told.2))
-    field.zero out c.height-whole.ensures.whole _ _ c.in_ok-rows.leaves (λ s made. (search of_calls, ap length (let is : s.digests.items ≡ c.resize.new.items.items = search of_calls in is) ∙ made_long ∙ count))
+    (λ s start rows n right told. (
+      told.1 ∙ right,
+      subst (λ h. AreHashed g.H.RowHash.worth (λ r. g.H.RowHash.of_row h (row rows r)) start
+          (height rows) s.digests.items n.digests.items) right told.2,
+    ))
+    field.zero out c.height-whole.ensures.whole _ _ c.in_ok-rows.leaves (λ s made. (
+      search of_calls,
+      ap length (let is : s.digests.items ≡ c.resize.new.items.items = search of_calls in is) ∙ made_long ∙ count,
+    ))
     (c.in_ok-rows.ensures.published k c.requires.height)

@@ -11,7 +11,9 @@ returns-in-Ok-clause-counted g c = λ k e.
 
 pub returns-in-Ok-clause-within : goal.returns-in-Ok-clause-within
 returns-in-Ok-clause-within g c =
-    let told = limit_stays _ _ c.in-Ok.out.physical c.in-Ok.taken c.args.limit (λ r made. search of_calls) (c.in-Ok.ensures.published c.requires.log c.requires.height) in
+    let told =
+    limit_stays _ _ c.in-Ok.out.physical c.in-Ok.taken c.args.limit (λ r made. search of_calls)
+    (c.in-Ok.ensures.published c.requires.log c.requires.height) in
     omega (arith, c.seen.ensures.seen, c.seen.ensures.within, told)
 
 pub returns-in-Refused-clause-refused : goal.returns-in-Refused-clause-refused

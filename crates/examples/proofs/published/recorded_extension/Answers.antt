@@ -13,8 +13,11 @@ returns-in-Ok-clause-recorded g c = λ k e.
     let out = c.in-Ok.out.physical in
     let x = c.in-Ok.ensures.values in
     let wide : out.width ≡ c.args.mat.width = (x.extended k e).width ∙ (x.are_coefficients k e).width in
-    let tall = physical_height g.F.Valued c.in-Ok.out.bits (k + a) out _ c.height-whole.ensures.whole (sym c.height-whole.ensures.height ∙ c.height-whole.ensures.power) refl (x.extended k e).height in
-    let rows : c.extended_height-rows.result ≡ 2 ^ (k + a) = c.extended_height-rows.ensures.height ∙ ap (λ h. h * 2 ^ a) (c.height.ensures.height ∙ e) ∙ sym (pow-add 2 k a) in
+    let tall =
+    physical_height g.F.Valued c.in-Ok.out.bits (k + a) out _ c.height-whole.ensures.whole
+    (sym c.height-whole.ensures.height ∙ c.height-whole.ensures.power) refl (x.extended k e).height in
+    let rows : c.extended_height-rows.result ≡ 2 ^ (k + a) =
+    c.extended_height-rows.ensures.height ∙ ap (λ h. h * 2 ^ a) (c.height.ensures.height ∙ e) ∙ sym (pow-add 2 k a) in
     all_recorded _ b out c.in-Ok.recorder _ _
     (λ r made. let same : r ≡ c.in_ok-recorder.recorder = search of_calls in same ∙ c.in_ok-recorder.ensures.made)
     (rw rows (omega (arith, tall, div-le_self (height out) b)))

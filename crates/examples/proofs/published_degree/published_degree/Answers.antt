@@ -5,7 +5,8 @@ use Rattle.examples.proofs.published_degree.published_degree.Goals as goal
 
 pub returns-clause-exact : goal.returns-clause-exact
 returns-clause-exact g c k high =
-    degree_told g.F.Valued _ c.in_ok-kept.kept c.in_ok-coefficients.coefficients _ k high (rw c.in_ok-try_clone.ensures.copy at c.in_ok-coefficients.ensures.coefficients) _
+    degree_told g.F.Valued _ c.in_ok-kept.kept c.in_ok-coefficients.coefficients _ k high
+    (rw c.in_ok-try_clone.ensures.copy at c.in_ok-coefficients.ensures.coefficients) _
     c.has_degree_below-low.result (rw c.height-degree.ensures.height at c.has_degree_below-low.ensures)
 
 pub returns-clause-low : goal.returns-clause-low

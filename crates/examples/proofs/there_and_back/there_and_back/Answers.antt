@@ -10,6 +10,7 @@ coset_idft_batch-requires-clause-fits g c =
 pub returns-clause-same : goal.returns-clause-same
 returns-clause-same g c =
     IfOk-weaker c.coset_idft_batch.result _ _
-    (λ back given. inverse_of_transform g.F.Valued g.F.TwoAdicField.generator c.args.mat c.to_row_major_matrix.result back (g.F.Valued.value c.args.shift) c.requires.fits
+    (λ back given. inverse_of_transform g.F.Valued g.F.TwoAdicField.generator c.args.mat c.to_row_major_matrix.result
+    back (g.F.Valued.value c.args.shift) c.requires.fits
     (rw c.to_row_major_matrix.ensures c.in_ok-values.ensures.values) given)
     c.coset_idft_batch.ensures.coefficients

@@ -8,6 +8,7 @@ pub returns-clause-extension : goal.returns-clause-extension
 returns-clause-extension g c =
     IfOk-weaker c.coset_lde_batch_with_transform.result _ _
     (λ out given.
-    extended_of_same g.F.Valued g.F.TwoAdicField.generator _ g.D.TwoAdicSubgroupDft.LAYOUT c.args.mat (values_of g.F.Valued (g.D.Evaluations.Evaluations.natural out))
+    extended_of_same g.F.Valued g.F.TwoAdicField.generator _ g.D.TwoAdicSubgroupDft.LAYOUT c.args.mat
+    (values_of g.F.Valued (g.D.Evaluations.Evaluations.natural out))
     c.args.added_bits (g.F.Valued.value c.args.shift) (λ told answered called. search of_calls) given)
     c.coset_lde_batch_with_transform.ensures.values

@@ -19,7 +19,8 @@ returns-in_err-answer_by-clause-told g c =
     let told = read.ensures.told in
     let long = AllZip-long _ c.args.words.now read.mat.values read.ensures.entries in
     let size = ap₂ (λ (n a : ℕ). n * 2 ^ a) long (sym c.added_bits.ensures) ∙ sym told.2.room in
-    out_of_memory_told c.from_residual-in_err-answer_by.result _ _ c.from_residual-in_err-answer_by.ensures told.0 told.1 (rw c.added_bits.ensures at told.2) (rw c.undoes_shift.ensures at told.3)
+    out_of_memory_told c.from_residual-in_err-answer_by.result _ _ c.from_residual-in_err-answer_by.ensures told.0
+    told.1 (rw c.added_bits.ensures at told.2) (rw c.undoes_shift.ensures at told.3)
     (either_larger _ _ _ _ (le_refl _) (le_of_eq size) _ _ _ (le_refl _) _ c.in_err-answer_by.ensures.refused)
 
 pub returns-clause-size : goal.returns-clause-size

@@ -21,7 +21,8 @@ returns-then-is_none-clause-told g c =
 pub new-requires-clause-full : goal.new-requires-clause-full
 new-requires-clause-full g c =
     let read = c.in_ok-read in
-    rw (AllZip-long _ c.args.words.now read.field-0.items (rw read.was at c.in-Some-elements.ensures.elements)) (c.requires (c.fits.ensures.0 c.if-not-fits.false)).0
+    rw (AllZip-long _ c.args.words.now read.field-0.items (rw read.was at c.in-Some-elements.ensures.elements))
+    (c.requires (c.fits.ensures.0 c.if-not-fits.false)).0
 
 pub returns-in_err-read-clause-told : goal.returns-in_err-read-clause-told
 returns-in_err-read-clause-told g c =
@@ -30,8 +31,13 @@ returns-in_err-read-clause-told g c =
     let shift : MatchBool c.args.undoes_shift (HasInverse f c.args.shift) ⊤ =
     elim c.else-undoes_shift.branch [
       | else-undoes_shift-via-then-undoes_shift+else-is_none w ↦ let some : is_none w.try_inverse.result ≡ false = search rules in
-          rw w.if-undoes_shift.true (c.from_word-shift.result, c.from_word-shift.ensures below, found_where_some w.try_inverse.result _ some w.try_inverse.ensures.found)
+          rw w.if-undoes_shift.true (
+            c.from_word-shift.result,
+            c.from_word-shift.ensures below,
+            found_where_some w.try_inverse.result _ some w.try_inverse.ensures.found,
+          )
       | else-undoes_shift-via-else-undoes_shift w ↦ rw w.if-undoes_shift.false tt
     ] in
-    out_of_memory_told c.from_residual.result c.in_err-read.field-0.0 _ c.from_residual.ensures (search rules) (below, c.in-Some-elements.ensures.named.0 refl) (c.fits.ensures.0 c.if-not-fits.false) shift
+    out_of_memory_told c.from_residual.result c.in_err-read.field-0.0 _ c.from_residual.ensures (search rules)
+    (below, c.in-Some-elements.ensures.named.0 refl) (c.fits.ensures.0 c.if-not-fits.false) shift
     (first_larger _ _ _ _ (le_refl _) (c.requires (c.fits.ensures.0 c.if-not-fits.false)).1 _ _ _ (rw c.in_err-read.was at c.in-Some-elements.ensures.refused))

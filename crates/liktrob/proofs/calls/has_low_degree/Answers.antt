@@ -21,7 +21,8 @@ returns-in_err-coefficients-clause-told g c =
     let read = c.in_ok-engine in
     let told = read.ensures.told in
     let long = AllZip-long _ c.args.words.now read.word.values read.ensures.entries in
-    out_of_memory_told c.from_residual-in_err-coefficients.result _ _ c.from_residual-in_err-coefficients.ensures told.0 told.1 (rw c.message_size.ensures at told.2) told.3
+    out_of_memory_told c.from_residual-in_err-coefficients.result _ _ c.from_residual-in_err-coefficients.ensures told.0
+    told.1 (rw c.message_size.ensures at told.2) told.3
     (either_larger _ _ _ _ (le_refl _) (omega (arith, long)) _ _ _ (omega (arith, pow_pos c.args.added_bits)) _ c.in_err-coefficients.ensures.refused)
 
 pub returns-clause-answer : goal.returns-clause-answer
@@ -35,7 +36,9 @@ returns-clause-answer g c = λ answer two_valued exact.
     let high = named_high _ c.args.words.now read.word read.ensures.width read.ensures.entries (word_fits fit) in
     let told =
     subst (λ (h : ℕ). IsTrue c.has_degree_below.result ↔ HasDegreeBelow f roots h log s (values_of f read.word)) (sym (rows_are fit) ∙ fit.fits.height)
-    (degree_told f roots read.word c.in_ok-coefficients.coefficients s log high (c.in_ok-coefficients.ensures.answer log high) (c.message_size.result / c.args.width) c.has_degree_below.result c.has_degree_below.ensures) in
+    (degree_told f roots read.word c.in_ok-coefficients.coefficients s log high
+    (c.in_ok-coefficients.ensures.answer log high) (c.message_size.result / c.args.width)
+    c.has_degree_below.result c.has_degree_below.ensures) in
     record {
       log_message = fit.fits.log;
       word = read.word;

@@ -9,5 +9,7 @@ invariant-loop-word g l = record {
   room : l.elements.cap ≡ length l.words;
   below : IsTrue l.all_below → All (λ word. g.F.WordField.word_number word < g.F.CanonicalField.ORDER_U64) (take l.word-index l.words);
   told : All (λ word. g.F.WordField.word_number word < g.F.CanonicalField.ORDER_U64) l.words → IsTrue l.all_below;
-  named : IsTrue l.all_below → AllZip (λ word x. g.F.WordField.word_number word ≡ g.F.Valued.number (g.F.Valued.value x)) (take l.word-index l.words) l.elements.items;
+  named : IsTrue l.all_below
+      → AllZip (λ word x. g.F.WordField.word_number word ≡ g.F.Valued.number (g.F.Valued.value x))
+      (take l.word-index l.words) l.elements.items;
 }

@@ -1,4 +1,5 @@
-use Rattle.std.proofs.Common.{ℕ, vec_capacity, refl, ap, ◌≡◌, ◌+◌, ◌<◌, ◌≤◌, le_trans, ◌++◌, List, [], ◌∷◌, length, take, subst, sym, ◌∙◌, arith, inr, inl, le-add_left}
+use Rattle.std.proofs.Common.{ℕ, vec_capacity, refl, ap, ◌≡◌, ◌+◌, ◌<◌, ◌≤◌, le_trans, ◌++◌, List, [], ◌∷◌, length}
+use Rattle.std.proofs.Common.{take, subst, sym, ◌∙◌, arith, inr, inl, le-add_left}
 use Rattle.std.proofs.lemmas.List.{nil_from_length}
 use Rattle.std.proofs.lemmas.List.Elements.{All-nil, All-push, All-rest, All-take, All-weaker}
 use Rattle.std.proofs.lemmas.Slice.Zip.{all_zipped_more}
@@ -9,7 +10,9 @@ use Rattle.p3_matrix.specs.RowMajor.{RowMajor}
 use Rattle.p3_dft.specs.Jobs.{AreFirstAnswers, CanRun, HasMade, IsAnswer, IsPreparedFor}
 use Rattle.p3_dft.proofs.Calls.JobRuns.{told_of_job, told_of_list}
 use Rattle.p3_dft.proofs.Calls.EngineSteps.{later_same, later_still}
-use Rattle.p3_dft.proofs.Calls.JobLists.{costs_more, costs_none, costs_rest, first_answers, next_is, next_not_promised, next_of_all, of_all, on_any_error, ready_later, split_more, taken, taken_and_next}
+use Rattle.p3_dft.proofs.Calls.JobLists.{costs_more, costs_none, costs_rest, first_answers, next_is, next_not_promised}
+use Rattle.p3_dft.proofs.Calls.JobLists.{next_of_all, of_all, on_any_error, ready_later, split_more, taken}
+use Rattle.p3_dft.proofs.Calls.JobLists.{taken_and_next}
 use Rattle.p3_dft.proofs.Calls.PreparedHeights.{not_ok}
 use Rattle.p3_dft.proofs.jobs.answer_jobs.Goals as goal
 
@@ -51,7 +54,8 @@ loop-job-preserved g c =
     record {
       split = split_more _ c.loop-job.yielded _ _ c.in-Some.job so_far.split next;
       answered = subst (λ (ys : List (RowMajor g.row.F.Denot)). AllZip answers (c.loop-job.yielded ++ c.in-Some.job ∷ []) ys) (sym c.in_ok-push.ensures.items)
-          (all_zipped_more answers c.loop-job.yielded c.loop-job.answers.items c.in-Some.job c.in_ok-answer.answer so_far.answered c.in_ok-answer.ensures.answer);
+          (all_zipped_more answers c.loop-job.yielded c.loop-job.answers.items c.in-Some.job c.in_ok-answer.answer
+          so_far.answered c.in_ok-answer.ensures.answer);
       runnable = All-rest (CanRun g.F.Valued g.F.TwoAdicField.TWO_ADICITY) c.in-Some.job _ _ next so_far.runnable;
       room = le_trans so_far.room c.in_ok-push.ensures.capacity;
       served = All-push (IsPreparedFor facts c.run_job.new.engine) c.loop-job.yielded c.in-Some.job
@@ -71,15 +75,23 @@ returns-in_err-reserve_exact g c =
     record {
       all = IfOk-from_err _ _ err;
       prepares = IfOk-from_err _ _ err;
-      cost = costs_rest g.D.TwoAdicSubgroupDft.facts g.F.Valued g.F.TwoAdicField.TWO_ADICITY c.args.jobs.items [] c.args.jobs.items _ _ refl c.requires.runnable (costs_none g.D.TwoAdicSubgroupDft.facts [] _ refl);
+      cost =
+          costs_rest g.D.TwoAdicSubgroupDft.facts g.F.Valued g.F.TwoAdicField.TWO_ADICITY c.args.jobs.items []
+          c.args.jobs.items _ _ refl c.requires.runnable (costs_none g.D.TwoAdicSubgroupDft.facts [] _ refl);
       first = on_any_error _ (subst (AreFirstAnswers g.F.Valued g.F.TwoAdicField.generator c.args.jobs.items) (sym none)
           (record { fewer = some_jobs _ _ _ _ empty c.len.ensures c.args.jobs.ok.0 _ c.in_err-reserve_exact.ensures.full; answered = tt }));
-      prepares_first = on_any_error _ (subst (λ (ys : List (RowMajor g.row.F.Denot)). All (IsPreparedFor g.D.TwoAdicSubgroupDft.facts c.args.engine.now) (take (length ys) c.args.jobs.items))
+      prepares_first = on_any_error _ (subst (λ (ys : List (RowMajor g.row.F.Denot)). All
+          (IsPreparedFor g.D.TwoAdicSubgroupDft.facts c.args.engine.now) (take (length ys) c.args.jobs.items))
           (sym none) (All-nil (IsPreparedFor g.D.TwoAdicSubgroupDft.facts c.args.engine.now)));
-      cost_of_first = on_any_error _ (costs_rest g.D.TwoAdicSubgroupDft.facts g.F.Valued g.F.TwoAdicField.TWO_ADICITY _ [] _ _ _ refl (All-take (CanRun g.F.Valued g.F.TwoAdicField.TWO_ADICITY) _ c.args.jobs.items c.requires.runnable) (costs_none g.D.TwoAdicSubgroupDft.facts [] _ refl));
+      cost_of_first =
+          on_any_error _ (costs_rest g.D.TwoAdicSubgroupDft.facts g.F.Valued g.F.TwoAdicField.TWO_ADICITY _ [] _ _ _
+          refl (All-take (CanRun g.F.Valued g.F.TwoAdicField.TWO_ADICITY) _ c.args.jobs.items c.requires.runnable)
+          (costs_none g.D.TwoAdicSubgroupDft.facts [] _ refl));
       refused = on_any_error _ (inl (refl, none));
       later = later_same _ _;
-      room = told_of_list g.D.TwoAdicSubgroupDft.facts _ _ _ _ _ _ c.from_residual.result _ c.from_residual.ensures (room_for_all _ _ _ _ empty c.len.ensures c.args.jobs.ok.0) c.in_err-reserve_exact.ensures.room;
+      room =
+          told_of_list g.D.TwoAdicSubgroupDft.facts _ _ _ _ _ _ c.from_residual.result _ c.from_residual.ensures
+          (room_for_all _ _ _ _ empty c.len.ensures c.args.jobs.ok.0) c.in_err-reserve_exact.ensures.room;
     }
 
 pub returns-in_err-answer : goal.returns-in_err-answer
@@ -91,34 +103,66 @@ returns-in_err-answer g c =
     let next = c.in-Some.ensures.steps.0 in
     let so_far = c.loop-job.invariant in
     let result = c.from_residual-in_err-answer.result in
-    let made = costs_more facts g.F.Valued g.F.TwoAdicField.TWO_ADICITY c.loop-job.yielded c.in-Some.job _ _ _ (next_of_all runs c.in-Some.job _ _ next so_far.runnable) so_far.cost c.run_job.ensures.cost in
+    let made =
+    costs_more facts g.F.Valued g.F.TwoAdicField.TWO_ADICITY c.loop-job.yielded c.in-Some.job _ _ _
+    (next_of_all runs c.in-Some.job _ _ next so_far.runnable) so_far.cost c.run_job.ensures.cost in
     record {
       all = IfOk-from_err _ _ err;
       prepares = IfOk-from_err _ _ err;
-      cost = costs_rest facts g.F.Valued g.F.TwoAdicField.TWO_ADICITY _ _ _ _ _ (split_more _ c.loop-job.yielded _ _ c.in-Some.job so_far.split next) (All-rest runs c.in-Some.job _ _ next so_far.runnable) made;
-      first = on_any_error result (first_answers g.F.Valued g.F.TwoAdicField.generator c.args.jobs.items c.loop-job.yielded _ _ c.in-Some.job c.loop-job.answers.items so_far.split next so_far.answered);
-      prepares_first = on_any_error result (subst (All (IsPreparedFor facts c.run_job.new.engine)) (sym (taken answers c.args.jobs.items c.loop-job.yielded _ c.loop-job.answers.items so_far.split so_far.answered))
-          (All-weaker (IsPreparedFor facts c.loop-job.engine) (IsPreparedFor facts c.run_job.new.engine) (ready_later facts _ _ c.run_job.ensures.later) c.loop-job.yielded so_far.served));
-      cost_of_first = on_any_error result (subst (HasMade facts c.args.engine.now c.run_job.new.engine) (sym (taken_and_next answers c.args.jobs.items c.loop-job.yielded _ _ c.in-Some.job c.loop-job.answers.items so_far.split next so_far.answered)) made);
-      refused = on_any_error result (inr (next_not_promised g.F.Valued g.F.TwoAdicField.generator facts c.args.jobs.items c.loop-job.yielded _ _ c.in-Some.job c.loop-job.answers.items c.args.engine.now c.loop-job.engine so_far.split next so_far.answered so_far.later (λ promised. not_ok c.run_job.result _ c.in_err-answer.was (c.run_job.ensures.succeeds promised))));
+      cost =
+          costs_rest facts g.F.Valued g.F.TwoAdicField.TWO_ADICITY _ _ _ _ _
+          (split_more _ c.loop-job.yielded _ _ c.in-Some.job so_far.split next)
+          (All-rest runs c.in-Some.job _ _ next so_far.runnable) made;
+      first =
+          on_any_error result (first_answers g.F.Valued g.F.TwoAdicField.generator c.args.jobs.items c.loop-job.yielded
+          _ _ c.in-Some.job c.loop-job.answers.items so_far.split next so_far.answered);
+      prepares_first = on_any_error result (subst (All (IsPreparedFor facts c.run_job.new.engine))
+          (sym (taken answers c.args.jobs.items c.loop-job.yielded _ c.loop-job.answers.items so_far.split
+          so_far.answered))
+          (All-weaker (IsPreparedFor facts c.loop-job.engine) (IsPreparedFor facts c.run_job.new.engine)
+          (ready_later facts _ _ c.run_job.ensures.later) c.loop-job.yielded so_far.served));
+      cost_of_first =
+          on_any_error result (subst (HasMade facts c.args.engine.now c.run_job.new.engine) (sym (taken_and_next answers
+          c.args.jobs.items c.loop-job.yielded _ _ c.in-Some.job c.loop-job.answers.items so_far.split next
+          so_far.answered)) made);
+      refused =
+          on_any_error result (inr (next_not_promised g.F.Valued g.F.TwoAdicField.generator facts c.args.jobs.items
+          c.loop-job.yielded _ _ c.in-Some.job c.loop-job.answers.items c.args.engine.now c.loop-job.engine
+          so_far.split next so_far.answered so_far.later
+          (λ promised. not_ok c.run_job.result _ c.in_err-answer.was (c.run_job.ensures.succeeds promised))));
       later = later_still _ _ _ _ so_far.later c.run_job.ensures.later;
       room = told_of_job facts _ _ _ _ _ c.in-Some.job result _ c.from_residual-in_err-answer.ensures
-          (λ d. next_is g.F.Valued g.F.TwoAdicField.generator c.args.jobs.items c.loop-job.yielded _ _ c.in-Some.job c.loop-job.answers.items d so_far.split next so_far.answered)
+          (λ d. next_is g.F.Valued g.F.TwoAdicField.generator c.args.jobs.items c.loop-job.yielded _ _ c.in-Some.job
+          c.loop-job.answers.items d so_far.split next so_far.answered)
           c.in_err-answer.ensures.room;
     }
 
 -- there is room for the answer to each job
 pub returns-in_err-push : goal.returns-in_err-push
 returns-in_err-push g c =
-    let first = first_answers g.F.Valued g.F.TwoAdicField.generator c.args.jobs.items c.loop-job.yielded _ _ c.in-Some.job c.loop-job.answers.items c.loop-job.invariant.split c.in-Some.ensures.steps.0 c.loop-job.invariant.answered in
+    let first =
+    first_answers g.F.Valued g.F.TwoAdicField.generator c.args.jobs.items c.loop-job.yielded _ _ c.in-Some.job
+    c.loop-job.answers.items c.loop-job.invariant.split c.in-Some.ensures.steps.0 c.loop-job.invariant.answered in
     absurd (no_room_left _ _ _ _ _ c.loop-job.answers.ok.0 c.args.jobs.ok.0 first.fewer c.loop-job.invariant.room c.in_err-push.ensures.full)
 
 pub returns : goal.returns
 returns g c =
     record {
-      all = let left = into_iter_items c.loop-job.job-iterator in let none : left ≡ [] = nil_from_length left (sym c.loop-job.job-iterator.rest.ok.0 ∙ c.in-None.ensures.steps.0) in of_all (λ xs. AllZip (IsAnswer g.F.Valued g.F.TwoAdicField.generator) xs c.loop-job.answers.items) _ c.loop-job.yielded left c.loop-job.invariant.split none c.loop-job.invariant.answered;
-      prepares = let left = into_iter_items c.loop-job.job-iterator in let none : left ≡ [] = nil_from_length left (sym c.loop-job.job-iterator.rest.ok.0 ∙ c.in-None.ensures.steps.0) in of_all (λ xs. All (IsPreparedFor g.D.TwoAdicSubgroupDft.facts c.loop-job.engine) xs) _ c.loop-job.yielded left c.loop-job.invariant.split none c.loop-job.invariant.served;
-      cost = costs_rest g.D.TwoAdicSubgroupDft.facts g.F.Valued g.F.TwoAdicField.TWO_ADICITY _ c.loop-job.yielded _ _ _ c.loop-job.invariant.split c.loop-job.invariant.runnable c.loop-job.invariant.cost;
+      all =
+          let left = into_iter_items c.loop-job.job-iterator in
+          let none : left ≡ [] =
+          nil_from_length left (sym c.loop-job.job-iterator.rest.ok.0 ∙ c.in-None.ensures.steps.0) in
+          of_all (λ xs. AllZip (IsAnswer g.F.Valued g.F.TwoAdicField.generator) xs c.loop-job.answers.items) _
+          c.loop-job.yielded left c.loop-job.invariant.split none c.loop-job.invariant.answered;
+      prepares =
+          let left = into_iter_items c.loop-job.job-iterator in
+          let none : left ≡ [] =
+          nil_from_length left (sym c.loop-job.job-iterator.rest.ok.0 ∙ c.in-None.ensures.steps.0) in
+          of_all (λ xs. All (IsPreparedFor g.D.TwoAdicSubgroupDft.facts c.loop-job.engine) xs) _ c.loop-job.yielded left
+          c.loop-job.invariant.split none c.loop-job.invariant.served;
+      cost =
+          costs_rest g.D.TwoAdicSubgroupDft.facts g.F.Valued g.F.TwoAdicField.TWO_ADICITY _ c.loop-job.yielded _ _ _
+          c.loop-job.invariant.split c.loop-job.invariant.runnable c.loop-job.invariant.cost;
       first = tt;
       prepares_first = tt;
       cost_of_first = tt;

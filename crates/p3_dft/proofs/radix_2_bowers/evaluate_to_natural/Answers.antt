@@ -11,12 +11,14 @@ use Rattle.p3_dft.proofs.radix_2_bowers.evaluate_to_natural.Goals as goal
 
 pub two_adic_generator-generator-requires : goal.two_adic_generator-generator-requires
 two_adic_generator-generator-requires g c =
-    let same : c.log2_strict_usize-log_h.result ≡ c.requires.fits.log = log_same _ _ (sym c.log2_strict_usize-log_h.ensures.power ∙ c.height.ensures.height ∙ c.requires.fits.height) in
+    let same : c.log2_strict_usize-log_h.result ≡ c.requires.fits.log =
+    log_same _ _ (sym c.log2_strict_usize-log_h.ensures.power ∙ c.height.ensures.height ∙ c.requires.fits.height) in
     omega (arith, same, c.requires.fits.within)
 
 pub network_g-requires-clause-within : goal.network_g-requires-clause-within
 network_g-requires-clause-within g c =
-    let same : c.log2_strict_usize-log_h.result ≡ c.requires.fits.log = log_same _ _ (sym c.log2_strict_usize-log_h.ensures.power ∙ c.height.ensures.height ∙ c.requires.fits.height) in
+    let same : c.log2_strict_usize-log_h.result ≡ c.requires.fits.log =
+    log_same _ _ (sym c.log2_strict_usize-log_h.ensures.power ∙ c.height.ensures.height ∙ c.requires.fits.height) in
     omega (arith, same, c.requires.fits.within)
 
 pub network_g-requires-clause-twiddles : goal.network_g-requires-clause-twiddles
@@ -35,10 +37,23 @@ network_g-requires-clause-twiddles g c =
 
 pub returns-in_err-twiddles-clause-room : goal.returns-in_err-twiddles-clause-room
 returns-in_err-twiddles-clause-room g c =
-    room_of _ c.from_residual.result _ _ _ c.from_residual.ensures (half_table_fits _ c.requires.fits (sym c.height.ensures.height ∙ c.log2_strict_usize-log_h.ensures.power)) c.in_err-twiddles.ensures.room
+    room_of _ c.from_residual.result _ _ _ c.from_residual.ensures
+    (half_table_fits _ c.requires.fits (sym c.height.ensures.height ∙ c.log2_strict_usize-log_h.ensures.power))
+    c.in_err-twiddles.ensures.room
 
 pub returns-clause-values : goal.returns-clause-values
-returns-clause-values g c k high = let log = c.log2_strict_usize-log_h.result in let tall : height c.args.mat.now ≡ 2 ^ log = sym c.height.ensures.height ∙ c.log2_strict_usize-log_h.ensures.power in values_of_parts g.F.Valued g.F.TwoAdicField.generator c.args.mat.now _ c.values_mut.result.now c.network_g.new.values _ c.width-width.result log k (log_same log k (sym tall ∙ high)) c.width-width.ensures.whole tall c.values_mut.ensures.values c.width-width.ensures.width c.network_g.auto.values refl refl c.network_g.ensures.values
+returns-clause-values g c k high =
+    let log = c.log2_strict_usize-log_h.result in
+    let tall : height c.args.mat.now ≡ 2 ^ log =
+    sym c.height.ensures.height ∙ c.log2_strict_usize-log_h.ensures.power in
+    values_of_parts g.F.Valued g.F.TwoAdicField.generator c.args.mat.now _ c.values_mut.result.now
+    c.network_g.new.values _ c.width-width.result log k (log_same log k (sym tall ∙ high)) c.width-width.ensures.whole
+    tall c.values_mut.ensures.values c.width-width.ensures.width c.network_g.auto.values refl refl
+    c.network_g.ensures.values
 
 pub returns-clause-cost : goal.returns-clause-cost
-returns-clause-cost g c k high = let log = c.log2_strict_usize-log_h.result in let same : log ≡ k = log_same log k (sym c.log2_strict_usize-log_h.ensures.power ∙ c.height.ensures.height ∙ high) in rw (← same, ← c.width-width.ensures.width) c.network_g.ensures.cost
+returns-clause-cost g c k high =
+    let log = c.log2_strict_usize-log_h.result in
+    let same : log ≡ k =
+    log_same log k (sym c.log2_strict_usize-log_h.ensures.power ∙ c.height.ensures.height ∙ high) in
+    rw (← same, ← c.width-width.ensures.width) c.network_g.ensures.cost

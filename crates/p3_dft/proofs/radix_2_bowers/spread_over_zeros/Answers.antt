@@ -81,16 +81,19 @@ loop-done-preserved g c =
       shape = (c.exchange_rows.ensures.shape.0 ∙ shape.0, c.exchange_rows.ensures.shape.1 ∙ shape.1);
       rows = λ j inside.
           subst (λ (n : ℕ). SpreadFrom z (2 ^ a) h n (λ i. (matrix z m).entry i j) (λ i. (matrix z next).entry i j)) next_is
-          (spread_exchanged z (2 ^ a) h row (λ i. (matrix z m).entry i j) (matrix z now) (matrix z next) j (two_places a c.if-added_bits-eq0.false) (omega arith) (omega arith) grown (omega (arith, wide))
+          (spread_exchanged z (2 ^ a) h row (λ i. (matrix z m).entry i j) (matrix z now) (matrix z next) j
+          (two_places a c.if-added_bits-eq0.false) (omega arith) (omega arith) grown (omega (arith, wide))
           (subst (λ (k : ℕ). Same (matrix z next) (row_exchange row k (matrix z now))) place (c.exchange_rows.ensures.rows z))
-          (subst (λ (n : ℕ). SpreadFrom z (2 ^ a) h n (λ i. (matrix z m).entry i j) (λ i. (matrix z now).entry i j)) now_is (c.loop-done.invariant.rows j inside)));
+          (subst (λ (n : ℕ). SpreadFrom z (2 ^ a) h n (λ i. (matrix z m).entry i j) (λ i. (matrix z now).entry i j))
+          now_is (c.loop-done.invariant.rows j inside)));
     }
 
 pub returns-clause-shape : goal.returns-clause-shape
 returns-clause-shape g c =
     let m = c.args.mat in
     let shape = c.loop-done.invariant.shape in (
-      shape.0 ∙ ap (λ (n : RowMajor g.row.F.Denot). height n) c.in_ok-mat.ensures.padded ∙ padded_high g.F.Valued.zero m c.height-height.ensures.whole c.args.added_bits,
+      shape.0 ∙ ap (λ (n : RowMajor g.row.F.Denot). height n) c.in_ok-mat.ensures.padded
+          ∙ padded_high g.F.Valued.zero m c.height-height.ensures.whole c.args.added_bits,
       shape.1 ∙ ap (λ (n : RowMajor g.row.F.Denot). n.width) c.in_ok-mat.ensures.padded,
     )
 
@@ -101,7 +104,9 @@ returns-clause-rows g c i j below inside =
     let all : h + 1 - c.loop-done.done ≡ 1 = omega (arith, c.requires.nonzero, c.height-height.ensures.height) in
     let x = λ (r : ℕ). (matrix z c.args.mat).entry r j in
     let y = λ (r : ℕ). (matrix z c.loop-done.mat).entry r j in
-    spread_rows z (2 ^ c.args.added_bits) h x y (subst (λ (n : ℕ). SpreadFrom z (2 ^ c.args.added_bits) h n x y) all (c.loop-done.invariant.rows j inside)) i (omega (arith, c.height-height.ensures.height))
+    spread_rows z (2 ^ c.args.added_bits) h x y
+    (subst (λ (n : ℕ). SpreadFrom z (2 ^ c.args.added_bits) h n x y) all (c.loop-done.invariant.rows j inside)) i
+    (omega (arith, c.height-height.ensures.height))
 
 pub returns-clause-others : goal.returns-clause-others
 returns-clause-others g c i r j below some less inside =
@@ -110,11 +115,14 @@ returns-clause-others g c i r j below some less inside =
     let all : h + 1 - c.loop-done.done ≡ 1 = omega (arith, c.requires.nonzero, c.height-height.ensures.height) in
     let x = λ (r : ℕ). (matrix z c.args.mat).entry r j in
     let y = λ (r : ℕ). (matrix z c.loop-done.mat).entry r j in
-    spread_others z (2 ^ c.args.added_bits) h x y (subst (λ (n : ℕ). SpreadFrom z (2 ^ c.args.added_bits) h n x y) all (c.loop-done.invariant.rows j inside)) i r (omega (arith, c.height-height.ensures.height)) some less
+    spread_others z (2 ^ c.args.added_bits) h x y
+    (subst (λ (n : ℕ). SpreadFrom z (2 ^ c.args.added_bits) h n x y) all (c.loop-done.invariant.rows j inside)) i r
+    (omega (arith, c.height-height.ensures.height)) some less
 
 pub exchange_rows-requires-clause-i_in_bounds : goal.exchange_rows-requires-clause-i_in_bounds
 exchange_rows-requires-clause-i_in_bounds g c =
     let h = c.height-height.result in
     let grown : height c.loop-done.mat ≡ height c.args.mat * 2 ^ c.args.added_bits =
-    c.loop-done.invariant.shape.0 ∙ ap (λ (n : RowMajor g.row.F.Denot). height n) c.in_ok-mat.ensures.padded ∙ padded_high g.F.Valued.zero c.args.mat c.height-height.ensures.whole c.args.added_bits in
+    c.loop-done.invariant.shape.0 ∙ ap (λ (n : RowMajor g.row.F.Denot). height n) c.in_ok-mat.ensures.padded
+    ∙ padded_high g.F.Valued.zero c.args.mat c.height-height.ensures.whole c.args.added_bits in
     row_there (h - c.loop-done.done) h _ c.args.added_bits (omega arith) (grown ∙ ap (λ n. n * 2 ^ c.args.added_bits) (sym c.height-height.ensures.height))

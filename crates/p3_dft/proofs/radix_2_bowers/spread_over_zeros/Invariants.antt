@@ -9,5 +9,7 @@ invariant-loop-done g l =
     let z = g.F.Valued.zero in
     record {
       shape : HasShapeOf l.mat l.initial.mat;
-      rows : (j : ℕ) → j < l.fn.mat.width → SpreadFrom z (2 ^ l.added_bits) l.height (l.height + 1 - l.done) (λ i. (matrix z l.fn.mat).entry i j) (λ i. (matrix z l.mat).entry i j);
+      rows : (j : ℕ) → j < l.fn.mat.width
+          → SpreadFrom z (2 ^ l.added_bits) l.height (l.height + 1 - l.done) (λ i. (matrix z l.fn.mat).entry i j)
+          (λ i. (matrix z l.mat).entry i j);
     }

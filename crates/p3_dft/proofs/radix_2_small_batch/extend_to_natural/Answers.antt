@@ -1,4 +1,5 @@
-use Rattle.std.proofs.Common.{ℕ, List, [], ◌≡◌, ◌*◌, ◌/◌, ◌%◌, ◌+◌, ◌-◌, ◌^◌, ◌<◌, ◌≤◌, ◌++◌, length, get_or, replicate, drop, refl, sym, ◌∙◌, ap, ap₂, arith, mod-eq_of_lt, mul-div_cancel, pow-add}
+use Rattle.std.proofs.Common.{ℕ, List, [], ◌≡◌, ◌*◌, ◌/◌, ◌%◌, ◌+◌, ◌-◌, ◌^◌, ◌<◌, ◌≤◌, ◌++◌, length, get_or, replicate}
+use Rattle.std.proofs.Common.{drop, refl, sym, ◌∙◌, ap, ap₂, arith, mod-eq_of_lt, mul-div_cancel, pow-add}
 use Rattle.std.proofs.lemmas.List.{length-replicate}
 use Rattle.p3_field.specs.Ring.{power}
 use Rattle.p3_matrix.specs.BitOrder.{rev}
@@ -12,12 +13,17 @@ use Rattle.p3_dft.proofs.Calls.Shapes.{fewer_entries, powers_fit}
 use Rattle.p3_dft.proofs.radix_2_small_batch.extend_to_natural.Goals as goal
 
 -- as many zeros as the extension has entries
-zeros_length : {T : Type 0} (z : T) (old xs given values : List T) (len h w v k a : ℕ) → old ≡ [] → xs ≡ old ++ replicate (len * 2 ^ a % 2 ^ 64) z → len ≡ length given → given ≡ values → h * w ≡ length values → h ≡ 2 ^ k → v ≡ w
+zeros_length : {T : Type 0} (z : T) (old xs given values : List T) (len h w v k a : ℕ) → old ≡ []
+    → xs ≡ old ++ replicate (len * 2 ^ a % 2 ^ 64) z → len ≡ length given → given ≡ values → h * w ≡ length values
+    → h ≡ 2 ^ k → v ≡ w
     → w * 2 ^ (k + a) < 2 ^ 64 → length xs ≡ 2 ^ (k + a) * v
 zeros_length z old xs given values len h w v k a none is len_is given_is full high width room =
     let entries : len * 2 ^ a ≡ w * 2 ^ (k + a) =
-    ap (λ n. n * 2 ^ a) (len_is ∙ ap length given_is ∙ sym full ∙ ap (λ n. n * w) high) ∙ (let swap : 2 ^ k * w * 2 ^ a ≡ w * (2 ^ k * 2 ^ a) = omega arith in swap) ∙ ap (λ n. w * n) (sym (pow-add 2 k a)) in
-    ap length (is ∙ ap (λ ys. ys ++ replicate (len * 2 ^ a % 2 ^ 64) z) none) ∙ length-replicate (len * 2 ^ a % 2 ^ 64) z ∙ mod-eq_of_lt (omega (arith, entries, room)) ∙ entries
+    ap (λ n. n * 2 ^ a) (len_is ∙ ap length given_is ∙ sym full ∙ ap (λ n. n * w) high)
+    ∙ (let swap : 2 ^ k * w * 2 ^ a ≡ w * (2 ^ k * 2 ^ a) = omega arith in swap)
+    ∙ ap (λ n. w * n) (sym (pow-add 2 k a)) in
+    ap length (is ∙ ap (λ ys. ys ++ replicate (len * 2 ^ a % 2 ^ 64) z) none)
+    ∙ length-replicate (len * 2 ^ a % 2 ^ 64) z ∙ mod-eq_of_lt (omega (arith, entries, room)) ∙ entries
     ∙ (let swap : w * 2 ^ (k + a) ≡ 2 ^ (k + a) * w = omega arith in swap) ∙ ap (λ n. 2 ^ (k + a) * n) (sym width)
 
 full_rows : {T : Type 0} (xs ys : List T) (w h : ℕ) → xs ≡ ys → 1 ≤ w → length ys ≡ h * w → length xs / w * w ≡ length xs
@@ -28,19 +34,25 @@ full_rows xs ys w h same wide full =
 pub extending_network-requires-clause-size : goal.extending_network-requires-clause-size
 extending_network-requires-clause-size g c =
     ap length c.as_mut_slice.ensures.value
-    ∙ zeros_length g.F.Valued.zero c.new-values.result.items c.extend_by_zeros.new.values.items c.values.result.now c.args.mat.values _ _ c.args.mat.width c.width-width.result c.args.log_h c.args.added_bits
-    c.new-values.ensures.items c.in_ok-extend_by_zeros.ensures.ok refl c.values.ensures.values c.requires.whole.full c.requires.height c.width-width.ensures.width c.requires.room
+    ∙ zeros_length g.F.Valued.zero c.new-values.result.items c.extend_by_zeros.new.values.items c.values.result.now
+    c.args.mat.values _ _ c.args.mat.width c.width-width.result c.args.log_h c.args.added_bits
+    c.new-values.ensures.items c.in_ok-extend_by_zeros.ensures.ok refl c.values.ensures.values c.requires.whole.full
+    c.requires.height c.width-width.ensures.width c.requires.room
 
 pub new-requires-clause-full : goal.new-requires-clause-full
 new-requires-clause-full g c =
     let w = c.width-width.result in
     let rows = 2 ^ (c.args.log_h + c.args.added_bits) in
     let items = c.extend_by_zeros.new.values.items in
-    let size : length items ≡ rows * w = zeros_length g.F.Valued.zero c.new-values.result.items c.extend_by_zeros.new.values.items c.values.result.now c.args.mat.values _ _ c.args.mat.width c.width-width.result c.args.log_h c.args.added_bits
-    c.new-values.ensures.items c.in_ok-extend_by_zeros.ensures.ok refl c.values.ensures.values c.requires.whole.full c.requires.height c.width-width.ensures.width c.requires.room in
+    let size : length items ≡ rows * w =
+    zeros_length g.F.Valued.zero c.new-values.result.items c.extend_by_zeros.new.values.items c.values.result.now
+    c.args.mat.values _ _ c.args.mat.width c.width-width.result c.args.log_h c.args.added_bits
+    c.new-values.ensures.items c.in_ok-extend_by_zeros.ensures.ok refl c.values.ensures.values c.requires.whole.full
+    c.requires.height c.width-width.ensures.width c.requires.room in
     let len : length c.extending_network.new.values ≡ length items = c.extending_network.auto.values ∙ ap length c.as_mut_slice.ensures.value in
     full_rows _ c.extending_network.new.values w rows
-    (written c.extend_by_zeros.new.values.len c.extending_network.new.values (drop (length c.extending_network.new.values) items) (omega (arith, len, c.extend_by_zeros.new.values.ok.0)))
+    (written c.extend_by_zeros.new.values.len c.extending_network.new.values
+    (drop (length c.extending_network.new.values) items) (omega (arith, len, c.extend_by_zeros.new.values.ok.0)))
     (omega (arith, c.requires.whole.width, c.width-width.ensures.width)) (len ∙ size)
 
 pub extending_network-requires-clause-twiddles : goal.extending_network-requires-clause-twiddles
@@ -50,15 +62,22 @@ added-sub : (k a : ℕ) → k + a - a ≡ k
 added-sub k a = omega arith
 
 pub extending_network-requires-clause-rows : goal.extending_network-requires-clause-rows
-extending_network-requires-clause-rows g c = ap length c.values-2.ensures.values ∙ sym c.requires.whole.full ∙ ap₂ (λ (h w : ℕ). h * w) (c.requires.height ∙ ap (λ n. 2 ^ n) (sym (added-sub c.args.log_h c.args.added_bits))) (sym c.width-width.ensures.width)
+extending_network-requires-clause-rows g c =
+    ap length c.values-2.ensures.values ∙ sym c.requires.whole.full
+    ∙ ap₂ (λ (h w : ℕ). h * w) (c.requires.height ∙ ap (λ n. 2 ^ n) (sym (added-sub c.args.log_h c.args.added_bits)))
+    (sym c.width-width.ensures.width)
 
 pub extending_network-requires-clause-weights : goal.extending_network-requires-clause-weights
-extending_network-requires-clause-weights g c = ap length c.as_slice.ensures.value ∙ c.in_ok-weights.ensures.powers.size ∙ ap (λ n. 2 ^ n) (sym (added-sub c.args.log_h c.args.added_bits))
+extending_network-requires-clause-weights g c =
+    ap length c.as_slice.ensures.value ∙ c.in_ok-weights.ensures.powers.size
+    ∙ ap (λ n. 2 ^ n) (sym (added-sub c.args.log_h c.args.added_bits))
 
 pub returns-in_err-weights-clause-room : goal.returns-in_err-weights-clause-room
 returns-in_err-weights-clause-room g c =
     let table = powers_fit c.args.log_h c.requires.whole.width c.requires.height in
-    room_of _ c.from_residual.result _ _ _ c.from_residual.ensures (omega (arith, table, fewer_entries (height c.args.mat * c.args.mat.width) c.args.added_bits)) c.in_err-weights.ensures.room
+    room_of _ c.from_residual.result _ _ _ c.from_residual.ensures
+    (omega (arith, table, fewer_entries (height c.args.mat * c.args.mat.width) c.args.added_bits))
+    c.in_err-weights.ensures.room
 
 pub returns : goal.returns
 returns g c =
@@ -68,24 +87,36 @@ returns g c =
     let a = c.args.added_bits in
     let items = c.extend_by_zeros.new.values.items in
     let after = c.extending_network.new.values in
-    let size : length items ≡ 2 ^ (k + a) * w = zeros_length field.zero c.new-values.result.items items c.values.result.now c.args.mat.values _ _ c.args.mat.width w k a
-    c.new-values.ensures.items c.in_ok-extend_by_zeros.ensures.ok refl c.values.ensures.values c.requires.whole.full c.requires.height c.width-width.ensures.width c.requires.room in
+    let size : length items ≡ 2 ^ (k + a) * w =
+    zeros_length field.zero c.new-values.result.items items c.values.result.now c.args.mat.values _ _
+    c.args.mat.width w k a
+    c.new-values.ensures.items c.in_ok-extend_by_zeros.ensures.ok refl c.values.ensures.values c.requires.whole.full
+    c.requires.height c.width-width.ensures.width c.requires.room in
     let len : length after ≡ length items = c.extending_network.auto.values ∙ ap length c.as_mut_slice.ensures.value in
     record {
       values =
           let wide : 1 ≤ w = omega (arith, c.requires.whole.width, c.width-width.ensures.width) in
           let values_is = written c.extend_by_zeros.new.values.len after (drop (length after) items) (omega (arith, len, c.extend_by_zeros.new.values.ok.0)) in
-          values_of_weighed field g.F.TwoAdicField.generator c.args.mat c.new.result after c.as_slice.result.now w k (k + a) (field.value c.args.scale) (field.value c.args.shift) c.requires.height wide c.width-width.ensures.width
+          values_of_weighed field g.F.TwoAdicField.generator c.args.mat c.new.result after c.as_slice.result.now w k
+          (k + a) (field.value c.args.scale) (field.value c.args.shift) c.requires.height wide
+          c.width-width.ensures.width
           (ap (λ (n : RowMajor g.row.F.Denot). n.width) c.new.ensures) (ap (λ (n : RowMajor g.row.F.Denot). n.values) c.new.ensures ∙ values_is) (len ∙ size)
           (λ b below. ap (λ xs. field.value (get_or xs b field.zero)) c.as_slice.ensures.value ∙ c.in_ok-weights.ensures.powers.entries b below)
           (λ i j below inside. c.extending_network.ensures.values i j below inside
-          ∙ ap₂ (λ n xs. poly field.ring (2 ^ n) (λ q. field.ring.mul (field.value (get_or xs (rev n q * w + j) field.zero)) (field.value (get_or c.as_slice.result.now (rev n q) field.zero))) (power field.ring (field.value (g.F.TwoAdicField.generator (k + a))) i))
+          ∙ ap₂ (λ n xs. poly field.ring (2 ^ n) (λ q. field.ring.mul
+          (field.value (get_or xs (rev n q * w + j) field.zero))
+          (field.value (get_or c.as_slice.result.now (rev n q) field.zero)))
+          (power field.ring (field.value (g.F.TwoAdicField.generator (k + a))) i))
           (added-sub k a) c.values-2.ensures.values);
       grows = c.extending_network.ensures.grows;
       cost =
           let taken : length c.as_mut_slice.result.now ≡ 2 ^ (k + a) * w = ap length c.as_mut_slice.ensures.value ∙ size in
-          let same : w * (2 ^ a * (k * 2 ^ k / 2) + 2 ^ (k + a)) ≡ c.args.mat.width * (2 ^ a * (k * 2 ^ k / 2) + 2 ^ (k + a)) = ap (λ n. n * (2 ^ a * (k * 2 ^ k / 2) + 2 ^ (k + a))) c.width-width.ensures.width in
-          let made = extension_counted k a w (length c.as_mut_slice.result.now) c.args.products.now c.extending_network.new.products c.requires.nonzero taken c.extending_network.ensures.cost in
+          let same : w * (2 ^ a * (k * 2 ^ k / 2) + 2 ^ (k + a))
+          ≡ c.args.mat.width * (2 ^ a * (k * 2 ^ k / 2) + 2 ^ (k + a)) =
+          ap (λ n. n * (2 ^ a * (k * 2 ^ k / 2) + 2 ^ (k + a))) c.width-width.ensures.width in
+          let made =
+          extension_counted k a w (length c.as_mut_slice.result.now) c.args.products.now
+          c.extending_network.new.products c.requires.nonzero taken c.extending_network.ensures.cost in
           omega (arith, made, same);
       room = tt;
     }

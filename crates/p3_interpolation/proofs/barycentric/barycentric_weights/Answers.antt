@@ -12,8 +12,11 @@ batch_multiplicative_inverse-requires g c i below =
     let x = f.value c.args.point in
     let t = f.value c.inverse.result in
     let h = f.value c.inverse-step.result in
-    let root : IsInverse f.ring (f.value (g.F.TwoAdicField.generator c.args.log_height)) h = ap (λ z. f.ring.mul z h) (sym c.invertible_root.ensures.same) ∙ c.inverse-step.ensures in
-    let apart = ratio_apart f.ring g.met.F.TwoAdicField.roots_law c.args.log_height (f.value c.args.shift) t x h i c.requires.within c.inverse.ensures root c.requires.off_coset in
+    let root : IsInverse f.ring (f.value (g.F.TwoAdicField.generator c.args.log_height)) h =
+    ap (λ z. f.ring.mul z h) (sym c.invertible_root.ensures.same) ∙ c.inverse-step.ensures in
+    let apart =
+    ratio_apart f.ring g.met.F.TwoAdicField.roots_law c.args.log_height (f.value c.args.shift) t x h i
+    c.requires.within c.inverse.ensures root c.requires.off_coset in
     let all = c.as_slice.ensures.len ∙ c.in_ok-divisors.divisors.ok.0 ∙ c.in_ok-divisors.ensures.long in
     let is = ap (λ xs. f.value (get_or xs i f.zero)) c.as_slice.ensures.value ∙ c.in_ok-divisors.ensures.values i (subst (λ n. i < n) all below)
     ∙ ap (λ y. minus f.ring (f.ring.mul y (power f.ring h i)) f.ring.one) (g.met.F.Field.mul_law _ _ _ c.mul-ratio.ensures) in
@@ -27,7 +30,8 @@ returns g c =
     let t = f.value c.inverse.result in
     let h = f.value c.inverse-step.result in
     let scale = f.value c.div_2exp_u64-scale.result in
-    let root : IsInverse f.ring (f.value (g.F.TwoAdicField.generator k)) h = ap (λ z. f.ring.mul z h) (sym c.invertible_root.ensures.same) ∙ c.inverse-step.ensures in
+    let root : IsInverse f.ring (f.value (g.F.TwoAdicField.generator k)) h =
+    ap (λ z. f.ring.mul z h) (sym c.invertible_root.ensures.same) ∙ c.inverse-step.ensures in
     let over : f.value c.mul-ratio.result ≡ f.ring.mul x t = g.met.F.Field.mul_law _ _ _ c.mul-ratio.ensures in
     let scaled = c.div_2exp_u64-scale.ensures ∙ g.met.F.Field.sub_law _ _ _ c.sub-vanishing.ensures
     ∙ ap₂ (minus f.ring) (c.exp_power_of_2.ensures ∙ ap (λ y. power f.ring y (2 ^ k)) over) (ap f.value c.ONE.ensures ∙ g.met.F.Field.one_law) in
@@ -44,8 +48,10 @@ returns g c =
     record {
       long = c.in_ok-weights.ensures.long ∙ all;
       weights =
-          subst (λ (xs : List g.row.F.Denot). AreWeights f.ring (λ n. f.value (g.F.TwoAdicField.generator n)) k (f.value c.args.shift) x (λ i. f.value (get_or xs i f.zero))) (sym same)
-          (listed_weights f.ring g.met.F.TwoAdicField.roots_law f.value f.zero c.in_ok-divisors.divisors.items c.as_mut_slice.result.now ws k (f.value c.args.shift) t x h scale c.requires.within
+          subst (λ (xs : List g.row.F.Denot). AreWeights f.ring (λ n. f.value (g.F.TwoAdicField.generator n)) k
+          (f.value c.args.shift) x (λ i. f.value (get_or xs i f.zero))) (sym same)
+          (listed_weights f.ring g.met.F.TwoAdicField.roots_law f.value f.zero c.in_ok-divisors.divisors.items
+          c.as_mut_slice.result.now ws k (f.value c.args.shift) t x h scale c.requires.within
           c.inverse.ensures root scaled divisors inverses many c.scale_slice_in_place.auto.values c.scale_slice_in_place.ensures.values);
       room = tt;
     }

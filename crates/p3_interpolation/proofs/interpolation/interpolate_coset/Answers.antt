@@ -29,7 +29,8 @@ returns-clause-values g c =
     let some : 0 < c.new_col.result.width = omega (arith, one) in
     let single : 1 * m.width ≡ m.width = omega arith in
     let same = c.into_values.ensures.values in
-    values_by_weights f g.F.TwoAdicField.generator g.met.F.TwoAdicField.roots_law m k (f.value c.args.shift) (f.value c.args.point) (λ i. f.value (get_or weights i f.zero)) c.into_values.result.items
+    values_by_weights f g.F.TwoAdicField.generator g.met.F.TwoAdicField.roots_law m k (f.value c.args.shift)
+    (f.value c.args.point) (λ i. f.value (get_or weights i f.zero)) c.into_values.result.items
     c.log_height-log_height.ensures.within c.log_height-log_height.ensures.power c.requires.shift c.in_ok-weights.ensures.weights
     (ap length same ∙ sym c.into_values.ensures.whole.full ∙ ap₂ ◌*◌ (made.height ∙ one) made.width ∙ single)
     (λ j inside.
@@ -40,4 +41,5 @@ returns-clause-values g c =
     (λ i below.
     let place : i * 1 + 0 ≡ i = omega arith in
     ap (f.ring.mul ((values_of f m).entry i j))
-    (ap (λ (r : RowMajor g.row.F.Denot). f.value (get_or r.values (i * r.width + 0) f.zero)) c.new_col.ensures ∙ ap (λ n. f.value (get_or weights n f.zero)) place)))
+    (ap (λ (r : RowMajor g.row.F.Denot). f.value (get_or r.values (i * r.width + 0) f.zero)) c.new_col.ensures ∙ ap
+    (λ n. f.value (get_or weights n f.zero)) place)))

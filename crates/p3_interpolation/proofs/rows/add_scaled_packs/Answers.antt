@@ -18,7 +18,8 @@ loop-at-preserved g c =
     let sizes = pack_sizes l.at w (length row) (length xs) inside (length-map c.args.sums.now f.value ∙ sym c.requires.equal) in
     let long : length xs ≡ length ys = length-map c.args.sums.now f.value ∙ sym c.requires.equal ∙ sym (length-map row f.value) in
     let sums = next_pack op f.value l.at xs ys xs l.sums k sizes.0 long l.invariant.done in
-    let part : map f.value (take k (drop l.at row)) ≡ take k (drop l.at ys) = sym (take-map f.value k (drop l.at row)) ∙ ap (take k) (sym (drop-map f.value l.at row)) in
+    let part : map f.value (take k (drop l.at row)) ≡ take k (drop l.at ys) =
+    sym (take-map f.value k (drop l.at row)) ∙ ap (take k) (sym (drop-map f.value l.at row)) in
     record {
       width = l.invariant.width;
       left = pack_fits l.at l.invariant.left.0 w (length row) c.loop-at-test.true l.invariant.left.1;

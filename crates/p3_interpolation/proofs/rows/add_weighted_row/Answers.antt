@@ -23,7 +23,8 @@ loop-t-preserved g c =
     record {
       rows = part-more f.zero w _ _ l.sums c.add_scaled.new.sums t w refl room (c.add_scaled.auto.sums ∙ size)
           (λ j inside.
-          lane_at op f.value f.zero c.add_scaled.new.sums part c.args.row.now j (size ∙ sym c.requires.row) (omega (arith, inside, size)) c.add_scaled.ensures.sums
+          lane_at op f.value f.zero c.add_scaled.new.sums part c.args.row.now j (size ∙ sym c.requires.row)
+          (omega (arith, inside, size)) c.add_scaled.ensures.sums
           ∙ ap₂ (λ x y. f.ring.add (f.value x) (f.ring.mul (f.value (get_or c.args.row.now j f.zero)) y))
           (part_at l.sums (t * w) ((t * w + w) - t * w) j f.zero (omega (arith, inside)) ∙ l.invariant.rows.rest (t * w + j) (omega arith)) factor)
           l.invariant.rows;

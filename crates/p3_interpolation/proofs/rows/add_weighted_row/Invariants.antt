@@ -7,7 +7,9 @@ invariant-loop-t g l =
     let f = g.F.Valued in
     record {
       rows : RowsDone f.zero l.width
-          (λ t j y. f.value y ≡ f.ring.add (f.value (get_or l.fn.sums (t * l.width + j) f.zero)) (f.ring.mul (f.value (get_or l.row j f.zero)) (f.value (get_or l.weights t f.zero))))
+          (λ t j y. f.value y
+          ≡ f.ring.add (f.value (get_or l.fn.sums (t * l.width + j) f.zero))
+          (f.ring.mul (f.value (get_or l.row j f.zero)) (f.value (get_or l.weights t f.zero))))
           l.fn.sums l.t l.sums;
       count : l.products ≡ l.fn.products + l.t * l.width;
     }

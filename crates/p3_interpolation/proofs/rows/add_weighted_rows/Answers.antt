@@ -8,7 +8,10 @@ pub loop-i-init : goal.loop-i-init
 loop-i-init g c =
     let f = g.F.Valued in
     record {
-      sums = λ t j below inside. c.requires.zero (t * c.args.width + j) (omega (arith, mul-add-lt t c.args.width j c.args.columns below inside)) ∙ sym (sum-none f.ring _);
+      sums =
+          λ t j below inside. c.requires.zero (t * c.args.width + j)
+          (omega (arith, mul-add-lt t c.args.width j c.args.columns below inside))
+          ∙ sym (sum-none f.ring _);
       count = omega arith;
     }
 
@@ -22,7 +25,9 @@ loop-i-preserved g c =
     let rise : (i + 1) * (n * w) ≡ i * (n * w) + n * w = rw add-one (suc-mul i (n * w)) in
     record {
       sums = λ t j below inside.
-          let term : ℕ → f.Element = λ q. f.ring.mul (f.value (get_or c.args.rows.now (q * w + j) f.zero)) (f.value (get_or c.args.weights.now (q * n + t) f.zero)) in
+          let term : ℕ → f.Element =
+          λ q. f.ring.mul (f.value (get_or c.args.rows.now (q * w + j) f.zero))
+          (f.value (get_or c.args.weights.now (q * n + t) f.zero)) in
           c.add_weighted_row.ensures.sums t j below inside
           ∙ ap₂ f.ring.add (l.invariant.sums t j below inside)
           (ap₂ (λ x y. f.ring.mul (f.value x) (f.value y)) (part_at c.args.rows.now (i * w) ((i * w + w) - i * w) j f.zero (omega (arith, inside)))

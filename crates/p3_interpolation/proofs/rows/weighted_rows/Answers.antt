@@ -8,7 +8,8 @@ full_rows : (n h w : ℕ) → 1 ≤ w → n ≡ h * w → n / w * w ≡ n
 full_rows n h w some is = ap (λ k. k / w * w) is ∙ ap (λ q. q * w) (mul-div_cancel h some) ∙ sym is
 
 -- a sum whose lists and sizes have other names
-renamed : {T A : Type 0} (r : Ring A) (value : T → A) (z : T) (j t h h' w w' n n' : ℕ) (rows rows' weights weights' : List T) → h ≡ h' → w ≡ w' → n ≡ n' → rows ≡ rows' → weights ≡ weights'
+renamed : {T A : Type 0} (r : Ring A) (value : T → A) (z : T) (j t h h' w w' n n' : ℕ) (rows rows' weights weights' : List T)
+    → h ≡ h' → w ≡ w' → n ≡ n' → rows ≡ rows' → weights ≡ weights'
     → sum r h (λ i. r.mul (value (get_or rows (i * w + j) z)) (value (get_or weights (i * n + t) z)))
     ≡ sum r h' (λ i. r.mul (value (get_or rows' (i * w' + j) z)) (value (get_or weights' (i * n' + t) z)))
 renamed r value z j t h h' w w' n n' rows rows' weights weights' high wide many same_rows same_weights =
@@ -34,8 +35,12 @@ returns g c =
         sums = λ t j below inside.
             ap (λ (m : RowMajor g.row.F.Denot). f.value (get_or m.values (t * m.width + j) f.zero)) c.new.ensures
             ∙ c.in_ok-sums.ensures.sums t j (omega (arith, below, c.width.ensures.width)) (omega (arith, inside, c.width-width.ensures.width))
-            ∙ renamed f.ring f.value f.zero j t _ _ _ _ _ _ _ _ _ _ c.height.ensures.height c.width-width.ensures.width c.width.ensures.width c.values.ensures.values c.values-2.ensures.values;
+            ∙ renamed f.ring f.value f.zero j t _ _ _ _ _ _ _ _ _ _ c.height.ensures.height c.width-width.ensures.width
+            c.width.ensures.width c.values.ensures.values c.values-2.ensures.values;
       };
-      count = c.in_ok-sums.ensures.count ∙ ap₂ (λ h k. c.args.products.now + h * k) c.height.ensures.height (ap₂ ◌*◌ c.width.ensures.width c.width-width.ensures.width);
+      count =
+          c.in_ok-sums.ensures.count
+          ∙ ap₂ (λ h k. c.args.products.now + h * k) c.height.ensures.height
+          (ap₂ ◌*◌ c.width.ensures.width c.width-width.ensures.width);
       room = tt;
     }

@@ -50,14 +50,29 @@ with_spec 𝓤 𝓛 𝓜 𝓡 wired =
     )
     f.Key.name code.function (code.unfolded 𝓤 𝓛.H 𝓜 𝓡 wired)
     (λ κs. (shr_vals, (shr_vals, (shr_slice_vals, (shr_vals, tt)))))
-    (λ κs. (shr_Tells (named 0) κs.0 token.the_row, (shr_Tells (named 1) κs.1.0 usize, (shr_slice_Tells (named 2) κs.1.1.0 u8, (shr_Tells (named 3) κs.1.1.1.0 usize, tt)))))
+    (λ κs. (
+      shr_Tells (named 0) κs.0 token.the_row,
+      (
+        shr_Tells (named 1) κs.1.0 usize,
+        (shr_slice_Tells (named 2) κs.1.1.0 u8, (shr_Tells (named 3) κs.1.1.1.0 usize, tt)),
+      ),
+    ))
     (λ κs qs bounds a _ are.
     let y : W.Ghost = ((κs, qs, bounds, a, (shr_vals a.0, (shr_vals a.1.0, (shr_slice_vals a.1.1.0, (shr_vals a.1.1.1.0, tt))))), tt) in
     let passed : Fml = owns (types_at f.signature.params κs) a (shr_vals a.0, (shr_vals a.1.0, (shr_slice_vals a.1.1.0, (shr_vals a.1.1.1.0, tt)))) in
     let made : token.the_row.Denot = record { calls = a.0.now.calls ++ record { place = a.1.0.now; bytes = a.1.1.0.now; failures = a.1.1.1.0.now } ∷ [] } in
     qed 𝓛 ((raw (alive 𝓛 f.signature κs qs) ⊛ ‵ passed) ∷ ‵ ftrue ∷ []) ∵
     split ! $ move ! (2 ∷ []) $ drop ! $ enter ! _ _ _ _ _ $
-    alloc_all ! (λ l. pass_all ! refl ((tt, tt), ((tt, tt), ((tt, (tt, (record { fits = are.1.1.0.0.1.0 }, tt))), ((tt, tt), tt)))) $ sets ! (agg ! (no_more !)) refl (tt, tt) $
+    alloc_all ! (λ l. pass_all ! refl (
+      (tt, tt),
+      (
+        (tt, tt),
+        (
+          (tt, (tt, (record { fits = are.1.1.0.0.1.0 }, tt))),
+          ((tt, tt), tt),
+        ),
+      ),
+    ) $ sets ! (agg ! (no_more !)) refl (tt, tt) $
     returns ! (look_at ! 0 refl) $ free_all ! refl $
     suffices ! _ (ends_at 𝓛 f.ended stayed c y (vstruct vnil) made (tt, (tt, (tt, (tt, tt)))) (tt, (tt, (tt, (tt, tt))))) $
     says ! refl $ pure_i ! (token.the_row.own_val made (vstruct vnil ∷ [])) ((λ vss. (tt, tt)), tt) ((tt, (refl, tt)), tt) $

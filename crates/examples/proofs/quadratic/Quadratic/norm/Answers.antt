@@ -11,5 +11,7 @@ returns-clause-unit g c =
     let w = f.value g.W.Square.w in
     let x : f.Element × f.Element = (f.value c.args.self.now.constant, f.value c.args.self.now.linear) in
     let same : f.value c.sub.result ≡ norm f.ring w x =
-    law.sub_law _ _ _ c.sub.ensures ∙ ap₂ (minus f.ring) (law.mul_law _ _ _ c.mul.ensures) (c.times.ensures ∙ ap (f.ring.mul w) (law.mul_law _ _ _ c.mul-2.ensures)) in
+    law.sub_law _ _ _ c.sub.ensures
+    ∙ ap₂ (minus f.ring) (law.mul_law _ _ _ c.mul.ensures)
+    (c.times.ensures ∙ ap (f.ring.mul w) (law.mul_law _ _ _ c.mul-2.ensures)) in
     subst (λ n. IsInvertible f.ring n ↔ IsInvertible (quadratic f.ring w) x) (sym same) (unit_by_norm f.ring w x)

@@ -13,7 +13,8 @@ returns-clause-some g c =
     let b = f.value c.args.self.now.linear in
     let n = f.value c.in_ok-inverse.inverse in
     ap ((quadratic f.ring w).mul (a, b))
-    (both (ap f.value c.new.ensures.constant ∙ law.mul_law _ _ _ c.mul.ensures) (ap f.value c.new.ensures.linear ∙ law.neg_law _ _ c.neg.ensures ∙ ap f.ring.neg (law.mul_law _ _ _ c.mul-2.ensures)))
+    (both (ap f.value c.new.ensures.constant ∙ law.mul_law _ _ _ c.mul.ensures) (ap f.value c.new.ensures.linear
+    ∙ law.neg_law _ _ c.neg.ensures ∙ ap f.ring.neg (law.mul_law _ _ _ c.mul-2.ensures)))
     ∙ inverse_by_norm f.ring w a b n (ap (λ x. f.ring.mul x n) (sym c.norm.ensures.norm) ∙ c.in_ok-inverse.ensures.some)
 
 pub returns-clause-found : goal.returns-clause-found

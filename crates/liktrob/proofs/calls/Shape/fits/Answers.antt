@@ -5,7 +5,10 @@ use Rattle.liktrob.proofs.Shapes.{rows_fit, size_held, whole_rows}
 use Rattle.liktrob.proofs.calls.Shape.fits.Goals as goal
 
 pub returns-then-self-ne0 : goal.returns-then-self-ne0
-returns-then-self-ne0 g c = (λ t. absurd (true≢false (sym t)), λ fit. let whole = whole_rows fit in absurd (omega (arith, whole, c.if-self-eq0.false, c.if-self-ne0.true)))
+returns-then-self-ne0 g c = (
+  λ t. absurd (true≢false (sym t)),
+  λ fit. let whole = whole_rows fit in absurd (omega (arith, whole, c.if-self-eq0.false, c.if-self-ne0.true)),
+)
 
 pub returns-then-not-fits_lde : goal.returns-then-not-fits_lde
 returns-then-not-fits_lde g c = (λ t. absurd (true≢false (sym t)), λ fit. rw c.if-not-fits_lde.true at (c.fits_lde.ensures.1 (rows_fit fit)))

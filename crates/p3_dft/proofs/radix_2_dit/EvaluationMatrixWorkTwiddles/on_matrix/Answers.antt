@@ -6,7 +6,9 @@ use Rattle.p3_dft.proofs.Calls.Counts.{larger_bound}
 use Rattle.p3_dft.proofs.radix_2_dit.EvaluationMatrixWorkTwiddles.on_matrix.Goals as goal
 
 pub dit_network_to_natural-requires-clause-size : goal.dit_network_to_natural-requires-clause-size
-dit_network_to_natural-requires-clause-size g c = ap length c.values_mut.ensures.values ∙ c.reverse_rows.ensures.size ∙ sym c.requires.rows.whole.full ∙ ap₂ (λ (h w : ℕ). h * w) c.requires.rows.height (sym c.width-width.ensures.width)
+dit_network_to_natural-requires-clause-size g c =
+    ap length c.values_mut.ensures.values ∙ c.reverse_rows.ensures.size ∙ sym c.requires.rows.whole.full
+    ∙ ap₂ (λ (h w : ℕ). h * w) c.requires.rows.height (sym c.width-width.ensures.width)
 
 pub dit_network_to_natural-requires-clause-table : goal.dit_network_to_natural-requires-clause-table
 dit_network_to_natural-requires-clause-table g c =
@@ -17,8 +19,10 @@ dit_network_to_natural-requires-clause-twiddles g c l t below inside = c.as_slic
 
 pub returns-clause-takes : goal.returns-clause-takes
 returns-clause-takes g c =
-    transform_of_reversed g.F.Valued g.F.TwoAdicField.generator c.args.mat.now c.reverse_rows.new.mat _ c.values_mut.result.now c.dit_network_to_natural.new.values _ c.args.log_h c.width-width.result
-    c.requires.rows.whole c.requires.rows.height c.width-width.ensures.width c.reverse_rows.ensures.shape c.reverse_rows.ensures.size (c.reverse_rows.ensures.rows c.args.log_h c.requires.rows.height)
+    transform_of_reversed g.F.Valued g.F.TwoAdicField.generator c.args.mat.now c.reverse_rows.new.mat _
+    c.values_mut.result.now c.dit_network_to_natural.new.values _ c.args.log_h c.width-width.result
+    c.requires.rows.whole c.requires.rows.height c.width-width.ensures.width c.reverse_rows.ensures.shape
+    c.reverse_rows.ensures.size (c.reverse_rows.ensures.rows c.args.log_h c.requires.rows.height)
     c.values_mut.ensures.values c.dit_network_to_natural.auto.values refl refl c.dit_network_to_natural.ensures.values
 
 pub returns-clause-cost : goal.returns-clause-cost

@@ -9,7 +9,9 @@ on_prepared-requires-clause-alone g c whole one = ((refl, refl), λ bits high. r
 
 pub returns-in_err-mat-clause-engine : goal.returns-in_err-mat-clause-engine
 returns-in_err-mat-clause-engine g c = record {
-  later = later_with_tables g.F.Valued _ _ _ _ c.args.self.now _ _ _ _ _ _ c.self.view_is c.on_prepared.ensures.keeps (λ k s has. has) c.on_prepared.ensures.grows;
+  later =
+      later_with_tables g.F.Valued _ _ _ _ c.args.self.now _ _ _ _ _ _ c.self.view_is c.on_prepared.ensures.keeps
+      (λ k s has. has) c.on_prepared.ensures.grows;
   prepared = λ done k high. tt;
   cost = rw (← c.self.view_is) c.on_prepared.ensures.cost;
   tables = rw (← c.self.view_is) (le-add_right _ _);
@@ -25,12 +27,18 @@ returns-clause-made g c = rw (← c.self.view_is) c.in_ok-mat.ensures.made
 pub returns-clause-one_row : goal.returns-clause-one_row
 returns-clause-one_row g c = rw (← c.self.view_is) (λ one.
     let (same, kept) = c.in_ok-mat.ensures.one_row one in
-    let is : c.in_ok-mat.mat ≡ g.N.IntoRowMajorMatrix.stored c.args.mat = cc in
-    (row_handed_back c.bit_reverse_rows.result _ _ (c.bit_reverse_rows.ensures.matrix ∙ is) c.bit_reverse_rows.ensures.height (c.in_ok-mat.ensures.answer.0.0 ∙ one), ap₂ (λ log products. tabled log products c.self.inside.cosets) kept.0 kept.1))
+    let is : c.in_ok-mat.mat ≡ g.N.IntoRowMajorMatrix.stored c.args.mat = cc in (
+      row_handed_back c.bit_reverse_rows.result _ _ (c.bit_reverse_rows.ensures.matrix ∙ is)
+          c.bit_reverse_rows.ensures.height (c.in_ok-mat.ensures.answer.0.0 ∙ one),
+      ap₂
+          (λ log products. tabled log products c.self.inside.cosets) kept.0 kept.1,
+    ))
 
 pub returns-clause-engine : goal.returns-clause-engine
 returns-clause-engine g c = record {
-  later = later_with_tables g.F.Valued _ _ _ _ c.args.self.now _ _ _ _ _ _ c.self.view_is c.on_prepared.ensures.keeps (λ k s has. has) c.on_prepared.ensures.grows;
+  later =
+      later_with_tables g.F.Valued _ _ _ _ c.args.self.now _ _ _ _ _ _ c.self.view_is c.on_prepared.ensures.keeps
+      (λ k s has. has) c.on_prepared.ensures.grows;
   prepared = λ done k high. tt;
   cost = rw (← c.self.view_is) c.on_prepared.ensures.cost;
   tables = rw (← c.self.view_is) (le-add_right _ _);

@@ -13,7 +13,10 @@ returns g c = rw (← c.self.view_is) (record {
   coefficients = c.on_prepared.ensures.answer;
   succeeds = c.on_prepared.ensures.succeeds;
   made = c.on_prepared.ensures.made;
-  refused = on_err_weaker c.on_prepared.result (λ same. ap₂ (λ log products. tabled log products c.self.inside.cosets) same.0 same.1) c.on_prepared.ensures.refused;
+  refused =
+      on_err_weaker c.on_prepared.result
+      (λ same. ap₂ (λ log products. tabled log products c.self.inside.cosets) same.0 same.1)
+      c.on_prepared.ensures.refused;
   one_row = λ one. let (same, kept) = c.on_prepared.ensures.one_row one in (same, ap₂ (λ log products. tabled log products c.self.inside.cosets) kept.0 kept.1);
   cosets = refl;
   engine = record {

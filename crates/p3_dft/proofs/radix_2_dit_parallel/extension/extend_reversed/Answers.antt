@@ -1,4 +1,5 @@
-use Rattle.std.proofs.Common.{◌≡◌, ℕ, ◌+◌, ◌-◌, ◌*◌, ◌/◌, ◌%◌, ◌^◌, ◌++◌, List, length, get_or, take, drop, refl, sym, ap, ap₂, ◌∙◌, subst, arith, IsPermutation, pow-add, pow_pos}
+use Rattle.std.proofs.Common.{◌≡◌, ℕ, ◌+◌, ◌-◌, ◌*◌, ◌/◌, ◌%◌, ◌^◌, ◌++◌, List, length, get_or, take, drop, refl, sym}
+use Rattle.std.proofs.Common.{ap, ap₂, ◌∙◌, subst, arith, IsPermutation, pow-add, pow_pos}
 use Rattle.std.proofs.Math.Nat.{mul-div_cancel, mul-mod_left}
 use Rattle.std.proofs.lemmas.Result.{IfErr-weaker, on_ok_weaker}
 use Rattle.p3_matrix.specs.BitOrder.{rev}
@@ -25,7 +26,8 @@ pub returns-clause-values : goal.returns-clause-values
 returns-clause-values g c =
     let log = c.args.log_h in
     on_ok_weaker c.extend_slots.result
-    (λ given upper whole high over_zeros. values_of_network g.F.Valued g.F.TwoAdicField.generator upper c.args.mat.now c.values_mut.result.now log c.args.added_bits c.width-width.result
+    (λ given upper whole high over_zeros. values_of_network g.F.Valued g.F.TwoAdicField.generator upper c.args.mat.now
+    c.values_mut.result.now log c.args.added_bits c.width-width.result
     (g.F.Valued.value c.args.shift) (rev log) (λ q _. rev-lt log q) (sym c.width-width.ensures.width) c.values_mut.ensures.values whole high over_zeros
     c.extend_slots.new.values _ (c.extend_slots.auto.values ∙ ap length c.values_mut.ensures.values) c.requires.rows.height given)
     c.extend_slots.ensures.values
@@ -46,7 +48,8 @@ returns-clause-published g c =
     let parts : (log + 1) / 2 + (log - (log + 1) / 2) ≡ log = omega arith in
     let blocks : 2 ^ (log + a) ≡ 2 ^ a * 2 ^ ((log + 1) / 2) * b =
     pow-add 2 log a ∙ ap (λ k. 2 ^ k * 2 ^ a) (sym parts) ∙ ap (λ k. k * 2 ^ a) (pow-add 2 ((log + 1) / 2) (log - (log + 1) / 2)) ∙ omega arith in
-    let number : 2 ^ a * 2 ^ ((log + 1) / 2) ≡ 2 ^ (log + a) / b = sym (ap (λ k. k / b) blocks ∙ mul-div_cancel (2 ^ a * 2 ^ ((log + 1) / 2)) (pow_pos (log - (log + 1) / 2))) in
+    let number : 2 ^ a * 2 ^ ((log + 1) / 2) ≡ 2 ^ (log + a) / b =
+    sym (ap (λ k. k / b) blocks ∙ mul-div_cancel (2 ^ a * 2 ^ ((log + 1) / 2)) (pow_pos (log - (log + 1) / 2))) in
     let total = 2 ^ a * 2 ^ ((log + 1) / 2) in
     let blocks_are : slot_blocks 0 b w after total ≡ first_blocks b (record { width = m.width; values = entries }) (length entries / m.width / b) =
     first_are b w after total ∙ ap (first_blocks b (record { width = w; values = after })) (number ∙ sym (ap (λ h. h / b) tall))
@@ -72,14 +75,22 @@ returns-clause-refused g c =
     let s = field.value c.args.shift in
     let w = c.width-width.result in
     let start = c.values_mut.result.now in
-    let out : Matrix field.Element = record { height = 2 ^ n; width = w; entry = λ i j. poly field.ring (2 ^ log) (λ q. field.value (get_or start (rev log q * w + j) field.zero)) (point field.ring gen n s i) } in
+    let out : Matrix field.Element =
+    record {
+      height = 2 ^ n;
+      width = w;
+      entry =
+          λ i j. poly field.ring (2 ^ log) (λ q. field.value (get_or start (rev log q * w + j) field.zero))
+          (point field.ring gen n s i);
+    } in
     IfErr-weaker c.extend_slots.result _ _
     (λ refusal given upper whole high over_zeros.
     let accepted = given.0 in let refused = given.1 in let blocks = given.2 in let stopped = given.3 in (
       out,
       accepted,
       refused,
-      values_of_upper field g.F.TwoAdicField.generator upper c.args.mat.now start log c.args.added_bits w s (rev log) (λ q _. rev-lt log q) (sym c.width-width.ensures.width) c.values_mut.ensures.values
+      values_of_upper field g.F.TwoAdicField.generator upper c.args.mat.now start log c.args.added_bits w s (rev log)
+          (λ q _. rev-lt log q) (sym c.width-width.ensures.width) c.values_mut.ensures.values
           whole high over_zeros out refl refl (λ i j below inside. refl),
       blocks,
       stopped,
@@ -87,4 +98,6 @@ returns-clause-refused g c =
     c.extend_slots.ensures.refused
 
 pub returns-clause-same : goal.returns-clause-same
-returns-clause-same g c = entries_written c.args.mat.now _ c.extend_slots.new.values refl refl (c.extend_slots.auto.values ∙ ap length c.values_mut.ensures.values)
+returns-clause-same g c =
+    entries_written c.args.mat.now _ c.extend_slots.new.values refl refl
+    (c.extend_slots.auto.values ∙ ap length c.values_mut.ensures.values)

@@ -34,9 +34,11 @@ returns-clause-values g c root s roots low high r j p q =
     ap (λ n. (values_of field c.second_of_matrix.new.mat).entry n j) (sym split)
     ∙ c.second_of_matrix.ensures.values root s roots high a t j below inside (omega (arith, q, wide))
     ∙ poly_same field.ring (2 ^ left) _ _ x
-    (λ u l. ap (λ y. field.ring.mul y scale) (c.first_of_matrix.ensures.values root (power field.ring s (2 ^ left)) (fewer_roots field.ring mid left roots) low (rev left u) (rev mid a) j (rev-lt left u) (rev-lt mid a) q))
+    (λ u l. ap (λ y. field.ring.mul y scale) (c.first_of_matrix.ensures.values root (power field.ring s (2 ^ left))
+    (fewer_roots field.ring mid left roots) low (rev left u) (rev mid a) j (rev-lt left u) (rev-lt mid a) q))
     ∙ halves_joined field.ring roots s mid left a t (λ u. (values_of field m).entry u j) scale (omega arith) inside
-    ∙ ap (λ n. poly field.ring (2 ^ (mid + left)) (λ u. field.ring.mul ((values_of field m).entry u j) scale) (point field.ring root (mid + left) s (rev (mid + left) n))) split
+    ∙ ap (λ n. poly field.ring (2 ^ (mid + left)) (λ u. field.ring.mul ((values_of field m).entry u j) scale)
+    (point field.ring root (mid + left) s (rev (mid + left) n))) split
 
 pub second_of_matrix-requires-clause-table : goal.second_of_matrix-requires-clause-table
 second_of_matrix-requires-clause-table g c = c.requires.high
@@ -45,4 +47,6 @@ pub second_of_matrix-requires-clause-rows : goal.second_of_matrix-requires-claus
 second_of_matrix-requires-clause-rows g c = rows_still c.args.mat.now c.first_of_matrix.new.mat _ c.requires.rows c.first_of_matrix.ensures.same
 
 pub returns-clause-same : goal.returns-clause-same
-returns-clause-same g c = entries_then c.args.mat.now c.first_of_matrix.new.mat c.second_of_matrix.new.mat c.first_of_matrix.ensures.same.shape c.first_of_matrix.ensures.same.size c.second_of_matrix.ensures.same
+returns-clause-same g c =
+    entries_then c.args.mat.now c.first_of_matrix.new.mat c.second_of_matrix.new.mat
+    c.first_of_matrix.ensures.same.shape c.first_of_matrix.ensures.same.size c.second_of_matrix.ensures.same

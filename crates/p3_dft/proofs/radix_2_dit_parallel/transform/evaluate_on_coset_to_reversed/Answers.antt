@@ -20,10 +20,14 @@ pub network_to_reversed-requires-clause-rows : goal.network_to_reversed-requires
 network_to_reversed-requires-clause-rows g c = subst (HasTwoPowerRows c.args.mat.now) (sym (halves_whole c.args.log_h)) c.requires.rows
 
 pub network_to_reversed-requires-clause-low : goal.network_to_reversed-requires-clause-low
-network_to_reversed-requires-clause-low g c l below = layer_there c.args.table.now.log_h _ (omega (arith, c.requires.table, c.requires.rows.fits_u64)) c.twiddles.ensures.table.size l (omega (arith, c.requires.table, below))
+network_to_reversed-requires-clause-low g c l below =
+    layer_there c.args.table.now.log_h _ (omega (arith, c.requires.table, c.requires.rows.fits_u64))
+    c.twiddles.ensures.table.size l (omega (arith, c.requires.table, below))
 
 pub network_to_reversed-requires-clause-high : goal.network_to_reversed-requires-clause-high
-network_to_reversed-requires-clause-high g c l from below = layer_there c.args.table.now.log_h _ (omega (arith, c.requires.table, c.requires.rows.fits_u64)) c.twiddles.ensures.table.size l (omega (arith, c.requires.table, below))
+network_to_reversed-requires-clause-high g c l from below =
+    layer_there c.args.table.now.log_h _ (omega (arith, c.requires.table, c.requires.rows.fits_u64))
+    c.twiddles.ensures.table.size l (omega (arith, c.requires.table, below))
 
 pub returns-clause-values : goal.returns-clause-values
 returns-clause-values g c =
@@ -37,12 +41,17 @@ returns-clause-values g c =
     let out = c.network_to_reversed.new.mat in
     let xs = c.twiddles.result.now in
     let k_is : mid + left ≡ k = halves_whole k in
-    let table : IsCosetTable field g.F.TwoAdicField.generator s k xs = subst (λ (n : ℕ). IsCosetTable field g.F.TwoAdicField.generator s n xs) c.requires.table c.twiddles.ensures.table in
-    let roots : AreRoots field.ring (mid + left) gen = fewer_roots field.ring (mid + left) _ (omega (arith, c.requires.table, c.twiddles.ensures.within)) g.met.F.TwoAdicField.roots_law in
+    let table : IsCosetTable field g.F.TwoAdicField.generator s k xs =
+    subst (λ (n : ℕ). IsCosetTable field g.F.TwoAdicField.generator s n xs) c.requires.table
+    c.twiddles.ensures.table in
+    let roots : AreRoots field.ring (mid + left) gen =
+    fewer_roots field.ring (mid + left) _ (omega (arith, c.requires.table, c.twiddles.ensures.within))
+    g.met.F.TwoAdicField.roots_law in
     let low = low_of_coset field g.F.TwoAdicField.generator s k xs mid left (omega arith) k_is table in
     let high = high_of_coset field g.F.TwoAdicField.generator s k xs mid (mid + left) (omega arith) (sym k_is) table in
     let tall : height out ≡ height m = c.network_to_reversed.ensures.same.shape.0 in
-    is_values field.ring gen (values_of field m) k s (bit_reversal k (values_of field out)) (tall ∙ c.requires.rows.height) c.network_to_reversed.ensures.same.shape.1
+    is_values field.ring gen (values_of field m) k s (bit_reversal k (values_of field out))
+    (tall ∙ c.requires.rows.height) c.network_to_reversed.ensures.same.shape.1
     (λ i j below inside.
     let f = λ (q : ℕ). (values_of field m).entry q j in
     let scaled = λ (q : ℕ). field.ring.mul (f q) field.ring.one in

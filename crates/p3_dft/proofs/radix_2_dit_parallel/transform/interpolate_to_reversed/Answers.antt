@@ -17,5 +17,6 @@ returns-clause-coefficients g c =
     let tall : height out ≡ height m = c.transform_to_reversed.ensures.same.shape.0 in
     let undone : field.ring.mul (count field.ring (2 ^ k)) scale ≡ field.ring.one =
     ap (λ x. field.ring.mul x scale) (count-power_of_two field.ring k) ∙ c.div_2exp_u64-scale.ensures ∙ ap field.value c.ONE.ensures ∙ g.met.F.Field.one_law in
-    coefficients_of_scaled field.ring g.met.F.TwoAdicField.roots_law (values_of field m) (values_of field out) k scale c.requires.within c.requires.rows.height tall c.transform_to_reversed.ensures.same.shape.1 undone
+    coefficients_of_scaled field.ring g.met.F.TwoAdicField.roots_law (values_of field m) (values_of field out) k scale
+    c.requires.within c.requires.rows.height tall c.transform_to_reversed.ensures.same.shape.1 undone
     (λ i j below inside. c.transform_to_reversed.ensures.values i j below inside)

@@ -19,7 +19,8 @@ halves_below k n below = omega (arith, below)
 pub network_to_reversed-requires-clause-low : goal.network_to_reversed-requires-clause-low
 network_to_reversed-requires-clause-low g c =
     let k = c.args.log_h in
-    layer_there (mid_of k) _ (omega (arith, c.requires.rows.fits_u64)) (fewer_layers g.F.Valued _ (mid_of k) _ _ (halves_below k _ c.requires.in_table) c.low.ensures.table).size
+    layer_there (mid_of k) _ (omega (arith, c.requires.rows.fits_u64))
+    (fewer_layers g.F.Valued _ (mid_of k) _ _ (halves_below k _ c.requires.in_table) c.low.ensures.table).size
 
 pub network_to_reversed-requires-clause-rows : goal.network_to_reversed-requires-clause-rows
 network_to_reversed-requires-clause-rows g c = subst (HasTwoPowerRows c.args.mat.now) (sym (halves_whole c.args.log_h)) c.requires.rows
@@ -37,10 +38,13 @@ returns-clause-values g c r j p q =
     let left = k - mid in
     let root = root_of field gen inverse in
     let k_is : mid + left ≡ k = halves_whole k in
-    let roots : AreRoots field.ring (mid + left) root = fewer_roots field.ring (mid + left) _ (omega (arith, c.requires.in_table, c.high.ensures.within)) (are_roots field gen inverse g.met.F.TwoAdicField.roots_law) in
+    let roots : AreRoots field.ring (mid + left) root =
+    fewer_roots field.ring (mid + left) _ (omega (arith, c.requires.in_table, c.high.ensures.within))
+    (are_roots field gen inverse g.met.F.TwoAdicField.roots_law) in
     let f = λ (u : ℕ). field.ring.mul ((values_of field c.args.mat.now).entry u j) (factor field c.args.scale) in
     c.network_to_reversed.ensures.values root field.ring.one roots
-    (low_table field gen inverse mid (2 ^ left) _ (λ l t below inside. c.low.ensures.table.entries l t (omega (arith, below, halves_below k _ c.requires.in_table)) inside))
+    (low_table field gen inverse mid (2 ^ left) _ (λ l t below inside. c.low.ensures.table.entries l t
+    (omega (arith, below, halves_below k _ c.requires.in_table)) inside))
     (block_table field root mid (mid + left) c.args.tables.now c.high.result.now (omega (arith, c.requires.in_table)) c.high.ensures.table)
     r j (subst (λ (n : ℕ). r < 2 ^ n) (sym k_is) p) q
     ∙ ap (λ n. poly field.ring (2 ^ n) f (point field.ring root n field.ring.one (rev n r))) k_is

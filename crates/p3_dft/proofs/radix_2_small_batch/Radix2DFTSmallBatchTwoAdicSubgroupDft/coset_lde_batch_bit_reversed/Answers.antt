@@ -13,30 +13,51 @@ use Rattle.p3_dft.proofs.Calls.Shapes.{both_logs_fit, extended_table_fits, fits_
 use Rattle.p3_dft.proofs.radix_2_small_batch.Radix2DFTSmallBatchTwoAdicSubgroupDft.coset_lde_batch_bit_reversed.Goals as goal
 
 -- heights were prepared, without a product
-only_preparing : {F : Type 0} (t : ℕ → ℕ → ℕ) (x : ℕ → ℕ → ℕ → ℕ) (b : ℕ → ℕ → ℕ) {before after : EngineState} → before.prepared ≤ after.prepared → after.products ≡ before.products
+only_preparing : {F : Type 0} (t : ℕ → ℕ → ℕ) (x : ℕ → ℕ → ℕ → ℕ) (b : ℕ → ℕ → ℕ) {before after : EngineState}
+    → before.prepared ≤ after.prepared → after.products ≡ before.products
     → IsLater (tabled_facts {F = F} t x b) before after
-only_preparing t x b keeps none = record { keeps = λ k there. omega (arith, there, keeps); keeps_cosets = λ k s promised. tt; keeps_prepared = λ k there. omega (arith, there, keeps); grows = omega (arith, none) }
+only_preparing t x b keeps none = record {
+  keeps = λ k there. omega (arith, there, keeps);
+  keeps_cosets = λ k s promised. tt;
+  keeps_prepared = λ k there. omega (arith, there, keeps);
+  grows = omega (arith, none);
+}
 
 -- an engine that was prepared for a bits more than log, and made a call of log
-none_above_both : (k log a before prepared inside after : ℕ) → log ≡ k → prepared ≡ max before (log + a) → inside ≤ max prepared log → after ≤ max inside (log + a) → after ≤ max before (k + a)
+none_above_both : (k log a before prepared inside after : ℕ) → log ≡ k → prepared ≡ max before (log + a)
+    → inside ≤ max prepared log → after ≤ max inside (log + a) → after ≤ max before (k + a)
 none_above_both k log a before prepared inside after same made more most = omega arith
 
 pub overflow_add-log_h : goal.overflow_add-log_h
-overflow_add-log_h g c = omega (arith, (both_logs_fit _ _ c.requires.fits c.log2_strict_usize-log_h.ensures.power (c.height.ensures.height ∙ ap height c.into_row_major_matrix-mat.ensures)).3)
+overflow_add-log_h g c =
+    omega (
+      arith,
+      (both_logs_fit _ _ c.requires.fits c.log2_strict_usize-log_h.ensures.power
+          (c.height.ensures.height ∙ ap height c.into_row_major_matrix-mat.ensures)).3,
+    )
 
 pub prepare-requires-clause-within : goal.prepare-requires-clause-within
-prepare-requires-clause-within g c = (both_logs_fit _ _ c.requires.fits c.log2_strict_usize-log_h.ensures.power (c.height.ensures.height ∙ ap height c.into_row_major_matrix-mat.ensures)).2
+prepare-requires-clause-within g c =
+    (both_logs_fit _ _ c.requires.fits c.log2_strict_usize-log_h.ensures.power
+    (c.height.ensures.height ∙ ap height c.into_row_major_matrix-mat.ensures)).2
 
 pub prepare-requires-clause-size : goal.prepare-requires-clause-size
 prepare-requires-clause-size g c =
-    let digits : c.log2_strict_usize-log_h.result + c.args.added_bits < 64 = omega (arith, (both_logs_fit _ _ c.requires.fits c.log2_strict_usize-log_h.ensures.power (c.height.ensures.height ∙ ap height c.into_row_major_matrix-mat.ensures)).3) in
+    let digits : c.log2_strict_usize-log_h.result + c.args.added_bits < 64 =
+    omega (
+      arith,
+      (both_logs_fit _ _ c.requires.fits c.log2_strict_usize-log_h.ensures.power
+          (c.height.ensures.height ∙ ap height c.into_row_major_matrix-mat.ensures)).3,
+    ) in
     pow-lt digits
 
 pub coset_lde_batch_of_coefficients_bit_reversed-requires : goal.coset_lde_batch_of_coefficients_bit_reversed-requires
 coset_lde_batch_of_coefficients_bit_reversed-requires g c =
     let fits = c.requires.fits in
     let stored = c.into_row_major_matrix-mat.ensures in
-    let shape = answered_shape g.F.Valued g.F.TwoAdicField.generator _ (g.N.IntoRowMajorMatrix.stored c.args.mat) c.in_ok-coefficients.coefficients _ _ fits.log fits.height (rw (← stored) c.in_ok-coefficients.ensures.coefficients) (refl, refl)
+    let shape = answered_shape g.F.Valued g.F.TwoAdicField.generator _ (g.N.IntoRowMajorMatrix.stored c.args.mat)
+    c.in_ok-coefficients.coefficients _ _ fits.log fits.height
+    (rw (← stored) c.in_ok-coefficients.ensures.coefficients) (refl, refl)
     c.width-width.ensures.whole c.requires.shape c.transform-changed.ensures in
     record { fits = fits_lde_as _ _ _ _ _ _ fits shape.0 shape.1 }
 
@@ -44,23 +65,32 @@ pub returns-clause-values : goal.returns-clause-values
 returns-clause-values g c =
     let fits = c.requires.fits in
     let stored = c.into_row_major_matrix-mat.ensures in
-    let shape = answered_shape g.F.Valued g.F.TwoAdicField.generator _ (g.N.IntoRowMajorMatrix.stored c.args.mat) c.in_ok-coefficients.coefficients _ _ fits.log fits.height (rw (← stored) c.in_ok-coefficients.ensures.coefficients) (refl, refl)
+    let shape = answered_shape g.F.Valued g.F.TwoAdicField.generator _ (g.N.IntoRowMajorMatrix.stored c.args.mat)
+    c.in_ok-coefficients.coefficients _ _ fits.log fits.height
+    (rw (← stored) c.in_ok-coefficients.ensures.coefficients) (refl, refl)
     c.width-width.ensures.whole c.requires.shape c.transform-changed.ensures in
     IfOk-weaker c.coset_lde_batch_of_coefficients_bit_reversed.result _ _
-    (λ out given. extension_of_natural g.F.Valued g.F.TwoAdicField.generator _ (g.N.IntoRowMajorMatrix.stored c.args.mat) c.in_ok-coefficients.coefficients c.transform-changed.result (reversed_rows out.bits out.physical)
-    c.args.added_bits (g.F.Valued.value c.args.shift) (rw (← stored) c.in_ok-coefficients.ensures.coefficients) c.width-width.ensures.whole c.width-same_width.ensures.whole c.transform-changed.ensures (λ k e. given k (shape.0 ∙ e)))
+    (λ out given. extension_of_natural g.F.Valued g.F.TwoAdicField.generator _
+    (g.N.IntoRowMajorMatrix.stored c.args.mat) c.in_ok-coefficients.coefficients c.transform-changed.result
+    (reversed_rows out.bits out.physical)
+    c.args.added_bits (g.F.Valued.value c.args.shift) (rw (← stored) c.in_ok-coefficients.ensures.coefficients)
+    c.width-width.ensures.whole c.width-same_width.ensures.whole c.transform-changed.ensures
+    (λ k e. given k (shape.0 ∙ e)))
     c.coset_lde_batch_of_coefficients_bit_reversed.ensures.values
 
 pub returns-clause-engine : goal.returns-clause-engine
 returns-clause-engine g c =
     let fits = c.requires.fits in
     let stored = c.into_row_major_matrix-mat.ensures in
-    let shape = answered_shape g.F.Valued g.F.TwoAdicField.generator _ (g.N.IntoRowMajorMatrix.stored c.args.mat) c.in_ok-coefficients.coefficients _ _ fits.log fits.height (rw (← stored) c.in_ok-coefficients.ensures.coefficients) (refl, refl)
+    let shape = answered_shape g.F.Valued g.F.TwoAdicField.generator _ (g.N.IntoRowMajorMatrix.stored c.args.mat)
+    c.in_ok-coefficients.coefficients _ _ fits.log fits.height
+    (rw (← stored) c.in_ok-coefficients.ensures.coefficients) (refl, refl)
     c.width-width.ensures.whole c.requires.shape c.transform-changed.ensures in
     let kept : c.args.self.now.prepared ≤ c.prepare.new.self.prepared = omega (arith, c.in_ok-prepare.ensures.made) in
     after_later _ _ _ _ _ (only_preparing _ _ _ kept c.prepare.ensures.products) c.prepare.ensures.products refl
     (lde_of_same _ _ _ _ _ _ _ stored
-    (parts_after _ c.into_row_major_matrix-mat.result c.transform-changed.result c.args.added_bits _ _ _ _ _ (shape.0 ∙ ap height (sym stored), shape.1 ∙ ap (λ (m : RowMajor g.row.F.Denot). m.width) (sym stored))
+    (parts_after _ c.into_row_major_matrix-mat.result c.transform-changed.result c.args.added_bits _ _ _ _ _
+    (shape.0 ∙ ap height (sym stored), shape.1 ∙ ap (λ (m : RowMajor g.row.F.Denot). m.width) (sym stored))
     (λ k. omega (arith, entries_rise k c.args.added_bits c.into_row_major_matrix-mat.result.width))
     c.in_ok-coefficients.ensures.engine c.coset_lde_batch_of_coefficients_bit_reversed.ensures.engine))
 
@@ -68,12 +98,16 @@ pub returns-clause-only : goal.returns-clause-only
 returns-clause-only g c k e =
     let fits = c.requires.fits in
     let stored = c.into_row_major_matrix-mat.ensures in
-    let shape = answered_shape g.F.Valued g.F.TwoAdicField.generator _ (g.N.IntoRowMajorMatrix.stored c.args.mat) c.in_ok-coefficients.coefficients _ _ fits.log fits.height (rw (← stored) c.in_ok-coefficients.ensures.coefficients) (refl, refl)
+    let shape = answered_shape g.F.Valued g.F.TwoAdicField.generator _ (g.N.IntoRowMajorMatrix.stored c.args.mat)
+    c.in_ok-coefficients.coefficients _ _ fits.log fits.height
+    (rw (← stored) c.in_ok-coefficients.ensures.coefficients) (refl, refl)
     c.width-width.ensures.whole c.requires.shape c.transform-changed.ensures in
     let log = c.log2_strict_usize-log_h.result in
     let same = log_same log k (sym c.log2_strict_usize-log_h.ensures.power ∙ c.height.ensures.height ∙ ap height stored ∙ e) in
     none_above_both k log c.args.added_bits _ _ _ _ same c.in_ok-prepare.ensures.made
-    (none_above (λ (e : EngineState). e.prepared) c.idft_batch.result _ _ _ (c.idft_batch.ensures.made _ (sym c.height.ensures.height ∙ c.log2_strict_usize-log_h.ensures.power)) c.idft_batch.ensures.refused)
+    (none_above (λ (e : EngineState). e.prepared) c.idft_batch.result _ _ _
+    (c.idft_batch.ensures.made _ (sym c.height.ensures.height ∙ c.log2_strict_usize-log_h.ensures.power))
+    c.idft_batch.ensures.refused)
     (c.coset_lde_batch_of_coefficients_bit_reversed.ensures.only log (shape.0 ∙ e ∙ ap (λ n. 2 ^ n) (sym same)))
 
 pub idft_batch-requires : goal.idft_batch-requires
@@ -81,13 +115,27 @@ idft_batch-requires g c = record { fits = rw c.into_row_major_matrix-mat.ensures
 
 pub transform-changed-requires : goal.transform-changed-requires
 transform-changed-requires g c =
-    let are = c.in_ok-coefficients.ensures.coefficients.holds c.log2_strict_usize-log_h.result (sym c.height.ensures.height ∙ c.log2_strict_usize-log_h.ensures.power) in
+    let are =
+    c.in_ok-coefficients.ensures.coefficients.holds c.log2_strict_usize-log_h.result
+    (sym c.height.ensures.height ∙ c.log2_strict_usize-log_h.ensures.power) in
     c.requires.callable c.in_ok-coefficients.coefficients c.width-width.ensures.whole (rw (← c.into_row_major_matrix-mat.ensures) (are.height, are.width))
 
 pub returns-in_err-prepare : goal.returns-in_err-prepare
 returns-in_err-prepare g c =
     record {
       values = IfOk-from_err _ _ c.from_residual.ensures.0;
-      only = λ k e. omega (arith, log_same c.log2_strict_usize-log_h.result k (sym c.log2_strict_usize-log_h.ensures.power ∙ c.height.ensures.height ∙ ap height c.into_row_major_matrix-mat.ensures ∙ e), ap (λ (e : EngineState). e.prepared) c.in_err-prepare.ensures.refused);
-      engine = after_error _ _ _ _ c.from_residual.ensures.0 (only_preparing _ _ _ (le_of_eq (ap (λ (e : EngineState). e.prepared) (sym c.in_err-prepare.ensures.refused))) c.prepare.ensures.products) c.prepare.ensures.products (omega arith) (first_of _ _ _ _ (le_refl _) (extended_table_fits _ c.requires.fits (sym (ap height c.into_row_major_matrix-mat.ensures) ∙ sym c.height.ensures.height ∙ c.log2_strict_usize-log_h.ensures.power)) _ _ c.from_residual.result _ c.from_residual.ensures c.in_err-prepare.ensures.room);
+      only =
+          λ k e. omega (
+            arith,
+            log_same c.log2_strict_usize-log_h.result k (sym c.log2_strict_usize-log_h.ensures.power
+                ∙ c.height.ensures.height ∙ ap height c.into_row_major_matrix-mat.ensures ∙ e),
+            ap (λ (e : EngineState). e.prepared) c.in_err-prepare.ensures.refused,
+          );
+      engine =
+          after_error _ _ _ _ c.from_residual.ensures.0 (only_preparing _ _ _
+          (le_of_eq (ap (λ (e : EngineState). e.prepared) (sym c.in_err-prepare.ensures.refused)))
+          c.prepare.ensures.products) c.prepare.ensures.products (omega arith) (first_of _ _ _ _ (le_refl _) (extended_table_fits
+          _ c.requires.fits (sym (ap height c.into_row_major_matrix-mat.ensures) ∙ sym c.height.ensures.height
+          ∙ c.log2_strict_usize-log_h.ensures.power)) _ _ c.from_residual.result _ c.from_residual.ensures
+          c.in_err-prepare.ensures.room);
     }

@@ -13,10 +13,19 @@ use Rattle.p3_dft.proofs.Calls.Stored.{whole_still}
 use Rattle.p3_dft.proofs.radix_2_small_batch.Radix2DFTSmallBatchTwoAdicSubgroupDft.coset_lde_batch_of_coefficients_bit_reversed.Goals as goal
 
 pub overflow_add-log_h : goal.overflow_add-log_h
-overflow_add-log_h g c = omega (arith, (both_logs_fit _ _ c.requires.fits c.log2_strict_usize-log_h.ensures.power (c.height.ensures.height ∙ ap height c.into_row_major_matrix-mat.ensures)).3)
+overflow_add-log_h g c =
+    omega (
+      arith,
+      (both_logs_fit _ _ c.requires.fits c.log2_strict_usize-log_h.ensures.power
+          (c.height.ensures.height ∙ ap height c.into_row_major_matrix-mat.ensures)).3,
+    )
 
 pub make-requires : goal.make-requires
-make-requires g c = let fit = both_logs_fit _ _ c.requires.fits c.log2_strict_usize-log_h.ensures.power (c.height.ensures.height ∙ ap height c.into_row_major_matrix-mat.ensures) in record { within = fit.2; fits_u64 = fit.3 }
+make-requires g c =
+    let fit =
+    both_logs_fit _ _ c.requires.fits c.log2_strict_usize-log_h.ensures.power
+    (c.height.ensures.height ∙ ap height c.into_row_major_matrix-mat.ensures) in
+    record { within = fit.2; fits_u64 = fit.3 }
 
 pub pad_rows-requires-clause-bits : goal.pad_rows-requires-clause-bits
 pad_rows-requires-clause-bits g c = let small = output_log_small _ _ _ _ c.requires.fits in omega (arith, small)
@@ -25,10 +34,17 @@ pub pad_rows-requires-clause-size : goal.pad_rows-requires-clause-size
 pad_rows-requires-clause-size g c = rw c.into_row_major_matrix-mat.ensures (output_size _ _ _ _ c.requires.fits)
 
 pub extend_to_reversed-requires-clause-within : goal.extend_to_reversed-requires-clause-within
-extend_to_reversed-requires-clause-within g c = (both_logs_fit _ _ c.requires.fits c.log2_strict_usize-log_h.ensures.power (c.height.ensures.height ∙ ap height c.into_row_major_matrix-mat.ensures)).2
+extend_to_reversed-requires-clause-within g c =
+    (both_logs_fit _ _ c.requires.fits c.log2_strict_usize-log_h.ensures.power
+    (c.height.ensures.height ∙ ap height c.into_row_major_matrix-mat.ensures)).2
 
 pub extend_to_reversed-requires-clause-twiddles : goal.extend_to_reversed-requires-clause-twiddles
-extend_to_reversed-requires-clause-twiddles g c = record { size = λ l below. c.forward-twiddles.ensures.table.size l (omega (arith, below, c.in_ok-make.ensures.made)); entries = λ l b below inside. c.forward-twiddles.ensures.table.entries l b (omega (arith, below, c.in_ok-make.ensures.made)) inside }
+extend_to_reversed-requires-clause-twiddles g c = record {
+  size = λ l below. c.forward-twiddles.ensures.table.size l (omega (arith, below, c.in_ok-make.ensures.made));
+  entries =
+      λ l b below inside. c.forward-twiddles.ensures.table.entries l b (omega (arith, below, c.in_ok-make.ensures.made))
+      inside;
+}
 
 pub extend_to_reversed-requires-clause-rows : goal.extend_to_reversed-requires-clause-rows
 extend_to_reversed-requires-clause-rows g c =
@@ -37,8 +53,12 @@ extend_to_reversed-requires-clause-rows g c =
     let high : height m ≡ 2 ^ log = sym c.height.ensures.height ∙ c.log2_strict_usize-log_h.ensures.power in
     record {
       whole = rw c.in_ok-grown.ensures.padded (padded_whole g.F.Valued.zero m c.pad_rows.ensures.whole c.args.added_bits);
-      height = (padded_shape g.F.Valued.zero m m c.in_ok-grown.grown c.args.added_bits log c.pad_rows.ensures.whole (refl, refl) high c.in_ok-grown.ensures.padded).0;
-      fits_u64 = (both_logs_fit _ _ c.requires.fits c.log2_strict_usize-log_h.ensures.power (c.height.ensures.height ∙ ap height c.into_row_major_matrix-mat.ensures)).3;
+      height =
+          (padded_shape g.F.Valued.zero m m c.in_ok-grown.grown c.args.added_bits log c.pad_rows.ensures.whole
+          (refl, refl) high c.in_ok-grown.ensures.padded).0;
+      fits_u64 =
+          (both_logs_fit _ _ c.requires.fits c.log2_strict_usize-log_h.ensures.power
+          (c.height.ensures.height ∙ ap height c.into_row_major_matrix-mat.ensures)).3;
     }
 
 pub bit_reverse_rows-requires : goal.bit_reverse_rows-requires
@@ -46,7 +66,9 @@ bit_reverse_rows-requires g c =
     let m = c.into_row_major_matrix-mat.result in
     let log = c.log2_strict_usize-log_h.result in
     let high : height m ≡ 2 ^ log = sym c.height.ensures.height ∙ c.log2_strict_usize-log_h.ensures.power in
-    let grown = padded_shape g.F.Valued.zero m m c.in_ok-grown.grown c.args.added_bits log c.pad_rows.ensures.whole (refl, refl) high c.in_ok-grown.ensures.padded in
+    let grown =
+    padded_shape g.F.Valued.zero m m c.in_ok-grown.grown c.args.added_bits log c.pad_rows.ensures.whole (refl, refl)
+    high c.in_ok-grown.ensures.padded in
     (log + c.args.added_bits, c.extend_to_reversed.ensures.same.shape.0 ∙ grown.0)
 
 pub returns-clause-values : goal.returns-clause-values
@@ -65,11 +87,15 @@ returns-clause-values g c =
     rw (← c.into_row_major_matrix-mat.ensures, c.bit_reverse_rows.ensures.matrix)
     (λ k e.
     let same = log_same log k (sym high ∙ e) in
-    values_seen field g.F.TwoAdicField.generator (values_of field m) out (field.value c.args.shift) (k + a) c.bit_reverse_rows.result.bits is_whole (tall ∙ ap (λ n. 2 ^ (n + a)) same) c.bit_reverse_rows.ensures.height
+    values_seen field g.F.TwoAdicField.generator (values_of field m) out (field.value c.args.shift) (k + a)
+    c.bit_reverse_rows.result.bits is_whole (tall ∙ ap (λ n. 2 ^ (n + a)) same) c.bit_reverse_rows.ensures.height
     (rw (← same) (c.extend_to_reversed.ensures.values m c.pad_rows.ensures.whole high c.in_ok-grown.ensures.padded)))
 
 pub returns-clause-only : goal.returns-clause-only
-returns-clause-only g c k high = made_none_above k _ _ _ _ _ (log_same c.log2_strict_usize-log_h.result k (sym c.log2_strict_usize-log_h.ensures.power ∙ c.height.ensures.height ∙ ap height c.into_row_major_matrix-mat.ensures ∙ high)) (ap (λ e. e.prepared) c.self.view_is) c.make.ensures.only
+returns-clause-only g c k high =
+    made_none_above k _ _ _ _ _ (log_same c.log2_strict_usize-log_h.result k (sym c.log2_strict_usize-log_h.ensures.power ∙ c.height.ensures.height
+    ∙ ap height c.into_row_major_matrix-mat.ensures ∙ high)) (ap (λ e. e.prepared) c.self.view_is)
+    c.make.ensures.only
 
 pub returns-clause-engine : goal.returns-clause-engine
 returns-clause-engine g c =
@@ -80,7 +106,10 @@ returns-clause-engine g c =
     let grown = padded_shape g.F.Valued.zero m m c.in_ok-grown.grown a log c.pad_rows.ensures.whole (refl, refl) high c.in_ok-grown.ensures.padded in
     record {
       later = later_with_heights _ _ _ c.args.self.now _ _ _ _ c.self.view_is c.make.ensures.keeps c.extend_to_reversed.ensures.grows;
-      prepared = λ done k e. let same = log_same log k (sym high ∙ ap height c.into_row_major_matrix-mat.ensures ∙ e) in (made_both _ _ _ _ same c.in_ok-make.ensures.made).1;
+      prepared =
+          λ done k e.
+          let same = log_same log k (sym high ∙ ap height c.into_row_major_matrix-mat.ensures ∙ e) in
+          (made_both _ _ _ _ same c.in_ok-make.ensures.made).1;
       cost = λ k e.
           let same = log_same log k (sym high ∙ ap height c.into_row_major_matrix-mat.ensures ∙ e) in
           let wide = grown.1 ∙ ap (λ (n : RowMajor g.row.F.Denot). n.width) c.into_row_major_matrix-mat.ensures in
@@ -91,8 +120,15 @@ returns-clause-engine g c =
     }
 
 pub returns-in_err-make-clause-engine : goal.returns-in_err-make-clause-engine
-returns-in_err-make-clause-engine g c = after_error _ _ _ _ c.from_residual.ensures.0 (later_with_heights _ _ _ c.args.self.now _ _ _ _ c.self.view_is c.make.ensures.keeps (le_refl c.self.inside.products)) (ap (λ e. e.products) c.self.view_is) (omega arith)
-    (first_of _ _ _ _ (le_refl _) (extended_table_fits _ c.requires.fits (sym (ap height c.into_row_major_matrix-mat.ensures) ∙ sym c.height.ensures.height ∙ c.log2_strict_usize-log_h.ensures.power)) _ _ c.from_residual.result _ c.from_residual.ensures c.in_err-make.ensures.room)
+returns-in_err-make-clause-engine g c =
+    after_error _ _ _ _ c.from_residual.ensures.0 (later_with_heights _ _ _ c.args.self.now _ _ _ _ c.self.view_is
+    c.make.ensures.keeps (le_refl c.self.inside.products)) (ap (λ e. e.products) c.self.view_is) (omega arith)
+    (first_of _ _ _ _ (le_refl _) (extended_table_fits _ c.requires.fits (sym (ap height c.into_row_major_matrix-mat.ensures) ∙ sym c.height.ensures.height
+    ∙ c.log2_strict_usize-log_h.ensures.power)) _ _ c.from_residual.result _ c.from_residual.ensures
+    c.in_err-make.ensures.room)
 
 pub returns-in_err-grown-clause-only : goal.returns-in_err-grown-clause-only
-returns-in_err-grown-clause-only g c k high = made_none_above k _ _ _ _ _ (log_same c.log2_strict_usize-log_h.result k (sym c.log2_strict_usize-log_h.ensures.power ∙ c.height.ensures.height ∙ ap height c.into_row_major_matrix-mat.ensures ∙ high)) (ap (λ e. e.prepared) c.self.view_is) c.make.ensures.only
+returns-in_err-grown-clause-only g c k high =
+    made_none_above k _ _ _ _ _ (log_same c.log2_strict_usize-log_h.result k (sym c.log2_strict_usize-log_h.ensures.power ∙ c.height.ensures.height
+    ∙ ap height c.into_row_major_matrix-mat.ensures ∙ high)) (ap (λ e. e.prepared) c.self.view_is)
+    c.make.ensures.only

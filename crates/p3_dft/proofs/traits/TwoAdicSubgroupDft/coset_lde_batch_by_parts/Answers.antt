@@ -12,7 +12,9 @@ idft_batch-requires g c = record { fits = input_fits _ _ _ _ c.requires.fits }
 pub coset_lde_batch_of_coefficients-requires : goal.coset_lde_batch_of_coefficients-requires
 coset_lde_batch_of_coefficients-requires g c =
     let fits = c.requires.fits in
-    let shape = answered_shape g.F.Valued g.F.TwoAdicField.generator _ _ _ _ _ fits.log fits.height c.in_ok-coefficients.ensures.coefficients c.exchange_layouts.ensures.shape c.exchange_layouts.ensures.whole c.requires.shape
+    let shape = answered_shape g.F.Valued g.F.TwoAdicField.generator _ _ _ _ _ fits.log fits.height
+    c.in_ok-coefficients.ensures.coefficients c.exchange_layouts.ensures.shape c.exchange_layouts.ensures.whole
+    c.requires.shape
     (rw c.LAYOUT-2.ensures at c.transform-coefficients.ensures) in
     let back = c.exchange_layouts-2.ensures.shape in
     record { fits = fits_lde_as _ _ _ _ _ _ fits (back.0 ∙ shape.0) (back.1 ∙ shape.1) }
@@ -21,12 +23,16 @@ pub returns-clause-values : goal.returns-clause-values
 returns-clause-values g c =
     let fits = c.requires.fits in
     let called = rw c.LAYOUT-2.ensures at c.transform-coefficients.ensures in
-    let shape = answered_shape g.F.Valued g.F.TwoAdicField.generator _ _ _ _ _ fits.log fits.height c.in_ok-coefficients.ensures.coefficients c.exchange_layouts.ensures.shape c.exchange_layouts.ensures.whole c.requires.shape called in
+    let shape =
+    answered_shape g.F.Valued g.F.TwoAdicField.generator _ _ _ _ _ fits.log fits.height
+    c.in_ok-coefficients.ensures.coefficients c.exchange_layouts.ensures.shape c.exchange_layouts.ensures.whole
+    c.requires.shape called in
     let back = c.exchange_layouts-2.ensures.shape in
     IfOk-weaker c.coset_lde_batch_of_coefficients.result _ _
     (λ out given.
     extension_of_parts g.F.Valued g.F.TwoAdicField.generator _ g.Self.TwoAdicSubgroupDft.LAYOUT (g.N.IntoRowMajorMatrix.stored c.args.mat)
-    c.in_ok-coefficients.coefficients c.exchange_layouts.new.mat c.transform-coefficients.result c.exchange_layouts-2.new.mat (g.Self.Evaluations.Evaluations.natural out)
+    c.in_ok-coefficients.coefficients c.exchange_layouts.new.mat c.transform-coefficients.result
+    c.exchange_layouts-2.new.mat (g.Self.Evaluations.Evaluations.natural out)
     c.args.added_bits (g.F.Valued.value c.args.shift)
     c.in_ok-coefficients.ensures.coefficients
     (rw c.LAYOUT.ensures at c.exchange_layouts.ensures.rows)
@@ -43,24 +49,30 @@ exchange_layouts-requires g c =
 pub exchange_layouts-requires-2 : goal.exchange_layouts-requires-2
 exchange_layouts-requires-2 g c =
     let fits = c.requires.fits in
-    let shape = answered_shape g.F.Valued g.F.TwoAdicField.generator _ _ _ _ _ fits.log fits.height c.in_ok-coefficients.ensures.coefficients c.exchange_layouts.ensures.shape c.exchange_layouts.ensures.whole c.requires.shape
+    let shape = answered_shape g.F.Valued g.F.TwoAdicField.generator _ _ _ _ _ fits.log fits.height
+    c.in_ok-coefficients.ensures.coefficients c.exchange_layouts.ensures.shape c.exchange_layouts.ensures.whole
+    c.requires.shape
     (rw c.LAYOUT-2.ensures at c.transform-coefficients.ensures) in
     record { power = (fits.log, shape.0 ∙ fits.height) }
 
 pub returns-clause-engine : goal.returns-clause-engine
 returns-clause-engine g c =
     let fits = c.requires.fits in
-    let shape = answered_shape g.F.Valued g.F.TwoAdicField.generator _ _ _ _ _ fits.log fits.height c.in_ok-coefficients.ensures.coefficients c.exchange_layouts.ensures.shape c.exchange_layouts.ensures.whole c.requires.shape
+    let shape = answered_shape g.F.Valued g.F.TwoAdicField.generator _ _ _ _ _ fits.log fits.height
+    c.in_ok-coefficients.ensures.coefficients c.exchange_layouts.ensures.shape c.exchange_layouts.ensures.whole
+    c.requires.shape
     (rw c.LAYOUT-2.ensures at c.transform-coefficients.ensures) in
     let back = c.exchange_layouts-2.ensures.shape in
-    parts_after g.Self.TwoAdicSubgroupDft.facts (g.N.IntoRowMajorMatrix.stored c.args.mat) c.exchange_layouts-2.new.mat c.args.added_bits _ _ _ _ _ (back.0 ∙ shape.0, back.1 ∙ shape.1)
+    parts_after g.Self.TwoAdicSubgroupDft.facts (g.N.IntoRowMajorMatrix.stored c.args.mat) c.exchange_layouts-2.new.mat
+    c.args.added_bits _ _ _ _ _ (back.0 ∙ shape.0, back.1 ∙ shape.1)
     (λ k. omega (arith, entries_rise k c.args.added_bits (g.N.IntoRowMajorMatrix.stored c.args.mat).width))
     c.in_ok-coefficients.ensures.engine c.coset_lde_batch_of_coefficients.ensures.engine
 
 pub transform-coefficients-requires : goal.transform-coefficients-requires
 transform-coefficients-requires g c =
     let are = c.in_ok-coefficients.ensures.coefficients.holds c.requires.fits.log c.requires.fits.height in
-    rw c.LAYOUT-2.ensures (c.requires.callable c.exchange_layouts.new.mat c.exchange_layouts.ensures.whole (c.exchange_layouts.ensures.shape.0 ∙ are.height, c.exchange_layouts.ensures.shape.1 ∙ are.width))
+    rw c.LAYOUT-2.ensures (c.requires.callable c.exchange_layouts.new.mat c.exchange_layouts.ensures.whole
+    (c.exchange_layouts.ensures.shape.0 ∙ are.height, c.exchange_layouts.ensures.shape.1 ∙ are.width))
 
 pub returns-in_err-coefficients-clause-engine : goal.returns-in_err-coefficients-clause-engine
 returns-in_err-coefficients-clause-engine g c =

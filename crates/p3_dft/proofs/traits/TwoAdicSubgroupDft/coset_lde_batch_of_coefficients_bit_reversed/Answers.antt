@@ -13,6 +13,9 @@ pub returns : goal.returns
 returns g c =
     let mat = g.N.IntoRowMajorMatrix.stored c.args.mat in
     record {
-      values = subst (λ (out : RowMajor g.row.F.Denot). IsExtendedTransform g.F.Valued g.F.TwoAdicField.generator mat c.args.added_bits (g.F.Valued.value c.args.shift) out) (sym c.into_bit_reversed.ensures) c.in_ok-extension.ensures.values;
+      values =
+          subst (λ (out : RowMajor g.row.F.Denot). IsExtendedTransform g.F.Valued g.F.TwoAdicField.generator mat
+          c.args.added_bits (g.F.Valued.value c.args.shift) out) (sym c.into_bit_reversed.ensures)
+          c.in_ok-extension.ensures.values;
       engine = as_stored g.Self.TwoAdicSubgroupDft.facts _ _ c.in_ok-extension.ensures.engine;
     }

@@ -6,6 +6,7 @@ pub returns : goal.returns
 returns g c =
     IfOk-weaker c.coset_dft_algebra_batch.result _ _
     (λ out given t within.
-    transform_of_coordinate g.V.BasedVectorSpace g.met.V.BasedVectorSpace.dimension_law t within g.F.Valued g.F.TwoAdicField.generator c.args.mat out (g.F.Valued.value c.args.shift)
+    transform_of_coordinate g.V.BasedVectorSpace g.met.V.BasedVectorSpace.dimension_law t within g.F.Valued
+    g.F.TwoAdicField.generator c.args.mat out (g.F.Valued.value c.args.shift)
     c.requires.width given)
     c.coset_dft_algebra_batch.ensures.values

@@ -10,4 +10,5 @@ returns-then-first-clause-distance g c told =
     g.F.PartialEq.eq g.met.F.Field.eq_law c.args.one.now c.args.other.now
     (c.in_ok-first.ensures.exact.0 c.if-first.true) (rw c.in_ok-first.ensures.code at (c.in_ok-second.ensures.exact.0 told)) (sym c.requires.width)
     (λ same. true≢false (sym (c.eq.ensures
-    ∙ equal_of_same g.F.Valued g.F.PartialEq.eq g.met.F.Field.eq_law c.args.one.now c.args.other.now c.height.ensures.whole c.height-2.ensures.whole same) ∙ c.if-eq.false))
+    ∙ equal_of_same g.F.Valued g.F.PartialEq.eq g.met.F.Field.eq_law c.args.one.now c.args.other.now
+    c.height.ensures.whole c.height-2.ensures.whole same) ∙ c.if-eq.false))

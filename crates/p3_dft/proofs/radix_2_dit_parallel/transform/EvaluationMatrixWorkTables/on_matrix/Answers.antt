@@ -20,7 +20,8 @@ returns-clause-takes g c =
       same.shape,
       λ bits high.
           transform_seen field gen m out _ k bits c.requires.rows.height c.requires.rows.whole same.shape same.size high
-          (is_subgroup_values field.ring (λ n. field.value (gen n)) (values_of field m) k (bit_reversal k (values_of field out)) (same.shape.0 ∙ c.requires.rows.height) same.shape.1
+          (is_subgroup_values field.ring (λ n. field.value (gen n)) (values_of field m) k
+          (bit_reversal k (values_of field out)) (same.shape.0 ∙ c.requires.rows.height) same.shape.1
           (λ i j below inside.
           let f = λ (q : ℕ). (values_of field m).entry q j in
           c.transform_to_reversed.ensures.values (rev k i) j (rev-lt k i) inside

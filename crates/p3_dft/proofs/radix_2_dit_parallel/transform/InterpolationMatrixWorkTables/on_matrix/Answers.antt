@@ -19,7 +19,9 @@ returns-clause-takes g c =
     interpolation_of_coefficients field g.F.TwoAdicField.generator g.met.F.TwoAdicField.roots_law m out log c.requires.within c.requires.rows.height
     (same_coefficients field.ring g.met.F.TwoAdicField.roots_law (values_of field m) log field.ring.one reversed (values_of field out)
     (same_sym (values_of field out) reversed
-    (mapped_same field.value (matrix field.zero out) (bit_reversal log (matrix field.zero c.interpolate_to_reversed.new.mat)) (c.reverse_rows.ensures.rows log (are.height ∙ c.requires.rows.height) field.zero))) are)
+    (mapped_same field.value (matrix field.zero out) (bit_reversal log
+    (matrix field.zero c.interpolate_to_reversed.new.mat)) (c.reverse_rows.ensures.rows log
+    (are.height ∙ c.requires.rows.height) field.zero))) are)
 
 pub returns-clause-cost : goal.returns-clause-cost
 returns-clause-cost g c = one_for_each _ _ _ _ c.interpolate_to_reversed.ensures.cost
