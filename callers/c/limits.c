@@ -48,6 +48,12 @@ static void expect(const char *what, uint32_t expected, uint32_t status) {
             expect(#FIELD " no words", 2, liktrob_##FIELD##_coset_dft(engine, words, 0, 1, MODULUS));                  \
             expect(#FIELD " greatest shift", 2, liktrob_##FIELD##_coset_dft(engine, words, 4, 3, (WORD)-1));           \
             expect(#FIELD " three rows", 3, liktrob_##FIELD##_coset_dft(engine, words, 3, 1, 1));                      \
+            words[0] = MODULUS - 1;                                                                                    \
+            expect(#FIELD " greatest number", 0, liktrob_##FIELD##_coset_dft(engine, words, 1, 1, MODULUS - 1));       \
+            expect(#FIELD " greatest shift", 2, liktrob_##FIELD##_coset_idft(engine, words, 1, 1, MODULUS));           \
+            words[0] = MODULUS;                                                                                        \
+            expect(#FIELD " number", 2, liktrob_##FIELD##_coset_idft(engine, words, 1, 1, MODULUS - 1));               \
+            words[0] = 1;                                                                                              \
             EXTENSIONS(FIELD, " three rows", 3, engine, 3, 1, 1, 1, 6)                                                 \
             EXTENSIONS(FIELD, " short output", 3, engine, 4, 2, 1, 1, 7)                                               \
         }                                                                                                              \

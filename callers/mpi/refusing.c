@@ -1,5 +1,5 @@
-/* Refuses requests for memory of the program on one rank: those from the N-th on, where LIKTROB_REFUSED is 'RANK N'. MPI
- * asks by itself, and is refused nothing.
+/* Refuses requests for memory of the program on one rank: those from the N-th on, where LIKTROB_REFUSED is 'RANK N'.
+ * MPI asks by itself, and is refused nothing.
  *
  *     mpicc .. refusing.c -Wl,--wrap=malloc,--wrap=realloc
  */
