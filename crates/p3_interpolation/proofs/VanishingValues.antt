@@ -1,10 +1,7 @@
 -- The vanishing polynomial of a subgroup, on cosets of two-power order: its values repeat, and where they have an inverse.
-use Rattle.std.proofs.Common.{◌≡◌, ℕ, zero, suc, ◌+◌, ◌*◌, ◌-◌, ◌≤◌, ◌^◌, refl, sym, ap, ap₂, ◌∙◌, arith, lit<, pow-add}
-use Rattle.p3_field.specs.Ring.{Ring, AreRoots, IsInverse, IsInvertible, minus, power}
-use Rattle.p3_field.specs.Fields.{FieldNumbers, baby_bear_numbers, field_ring, goldilocks_numbers, koala_bear_numbers}
-use Rattle.p3_field.specs.Residues.{Residue, residue-eq}
-use Rattle.p3_field.specs.Squarings.{repeated_square}
-use Rattle.p3_field.proofs.Powers.{power-add, power-mul, power-one, power-twice, power_of_one, power_of_product}
+use Rattle.std.proofs.Common.{◌≡◌, ℕ, ◌+◌, ◌*◌, ◌-◌, ◌≤◌, ◌^◌, sym, ap, ap₂, ◌∙◌, subst, arith, pow-add}
+use Rattle.p3_field.specs.Ring.{Ring, AreRoots, IsInvertible, minus, power}
+use Rattle.p3_field.proofs.Powers.{power-add, power-mul, power-zero, power_of_one, power_of_product}
 use Rattle.p3_field.proofs.Roots.{root_all, root_strided}
 use Rattle.p3_matrix.specs.Cosets.{point}
 use Rattle.p3_matrix.proofs.Polynomials.Cosets.{point-mul}
@@ -52,31 +49,12 @@ module _ {A : Type 0} (R : Ring A) {g : ℕ → A} {bits : ℕ} (G : AreRoots R 
             ∙ ap₂ (λ y z. minus R y z ⊗ off.0) all (sym (power_of_one R (2 ^ l))) ∙ off.1,
       )
 
+  -- so has s ^ (2 ^ n) - 1 itself
+  pub off_smaller : (l n : ℕ) (s : A) → n ≤ l → IsOffCoset R (2 ^ l) 𝟙 s → IsOffCoset R (2 ^ n) 𝟙 s
+  off_smaller l n s fewer off =
+      let same : point R g 0 s 0 ≡ s = point-mul R g 0 s 0 ∙ ap (λ x. s ⊗ x) (power-zero R (g 0)) ∙ R.mul_one s in
+      subst (λ (x : A). IsOffCoset R (2 ^ n) 𝟙 x) same (off_subgroups l 0 n s 0 (omega arith) (omega arith) fewer off)
+
   -- the same as the value of the vanishing polynomial
   pub vanishing_invertible : (n : ℕ) (x : A) → IsOffCoset R n 𝟙 x → IsInvertible R (minus R (power R x n) 𝟙)
   vanishing_invertible n x off = (off.0, ap (λ y. minus R (power R x n) y ⊗ off.0) (sym (power_of_one R n)) ∙ off.1)
-
--- ---- the fields of this library
-repeated_square-power : {A : Type 0} (R : Ring A) (x : A) (n : ℕ) → repeated_square R x n ≡ power R x (2 ^ n)
-repeated_square-power R x zero = sym (power-one R x)
-repeated_square-power R x (suc n) =
-    let e : 2 ^ suc n ≡ 2 * 2 ^ n = omega arith in
-    repeated_square-power R (R.mul x x) n ∙ sym (power-twice R x (2 ^ n)) ∙ ap (power R x) (sym e)
-
-generator_off : (f : FieldNumbers) (y : Residue f.modulus)
-    → IsInverse (field_ring f)
-    (minus (field_ring f) (repeated_square (field_ring f) f.generator f.two_adicity) (field_ring f).one) y
-    → IsOffCoset (field_ring f) (2 ^ f.two_adicity) (field_ring f).one f.generator
-generator_off f y inverse =
-    let R = field_ring f in
-    (y, ap₂ (λ a b. R.mul (minus R a b) y) (sym (repeated_square-power R f.generator f.two_adicity)) (power_of_one R (2 ^ f.two_adicity)) ∙ inverse)
-
--- the coset of GENERATOR meets no two-adic subgroup
-pub baby_bear_off : IsOffCoset (field_ring baby_bear_numbers) (2 ^ 27) (field_ring baby_bear_numbers).one baby_bear_numbers.generator
-baby_bear_off = generator_off baby_bear_numbers (record { number = 50265716; below = lit< tt }) (residue-eq _ _ refl)
-
-pub koala_bear_off : IsOffCoset (field_ring koala_bear_numbers) (2 ^ 24) (field_ring koala_bear_numbers).one koala_bear_numbers.generator
-koala_bear_off = generator_off koala_bear_numbers (record { number = 238148798; below = lit< tt }) (residue-eq _ _ refl)
-
-pub goldilocks_off : IsOffCoset (field_ring goldilocks_numbers) (2 ^ 32) (field_ring goldilocks_numbers).one goldilocks_numbers.generator
-goldilocks_off = generator_off goldilocks_numbers (record { number = 17772578631485973835; below = lit< tt }) (residue-eq _ _ refl)

@@ -1,1 +1,2 @@
+pub mod GeneratorCosets
 pub mod Interpolations

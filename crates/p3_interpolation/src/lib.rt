@@ -15,4 +15,9 @@ mod vanishing;
 pub use barycentric::{barycentric_weights, is_off_coset};
 pub use interpolation::{interpolate_coset, interpolate_subgroup};
 pub use rows::weighted_rows;
-pub use vanishing::{vanishing_inverses, vanishing_values};
+pub use vanishing::{
+    CosetGenerator, vanishing_inverses, vanishing_inverses_off_subgroups, vanishing_values,
+};
+
+#[cfg(test)]
+mod tests;

@@ -5,12 +5,46 @@ ghost use Rattle.std.specs.Mem.{type_size};
 ghost use Rattle.p3_field.specs.Ring.{IsInverse, IsInvertible, minus, power};
 ghost use Rattle.p3_matrix.specs.Cosets.{point};
 ghost use Rattle.p3_matrix.specs.Room.{IsWithin};
+ghost use Rattle.p3_interpolation.specs.GeneratorCosets.{baby_bear_off, goldilocks_off, koala_bear_off};
 ghost use Rattle.p3_interpolation.specs.Interpolations.{IsOffCoset};
 
 use crate::barycentric::powers_less_one;
-use p3_field::{TwoAdicField, batch_multiplicative_inverse};
+use p3_field::{
+    BabyBear, Goldilocks, KoalaBear, TwoAdicField, WideBabyBear, WideGoldilocks, WideKoalaBear,
+    batch_multiplicative_inverse,
+};
 use p3_matrix::DftError;
 use std::alloc::Global;
+
+/// A field whose coset `GENERATOR * K` meets no subgroup H of two-power order, for every K of such an order: so the
+/// vanishing polynomial of H has a value with an inverse at each point of it.
+pub trait CosetGenerator: TwoAdicField {
+    ghost off_law: { IsOffCoset Self.ring (2 ^ Self.TWO_ADICITY) Self.ring.one (Self.value Self.GENERATOR) };
+}
+
+impl CosetGenerator for BabyBear {
+    ghost off_law = { baby_bear_off };
+}
+
+impl CosetGenerator for KoalaBear {
+    ghost off_law = { koala_bear_off };
+}
+
+impl CosetGenerator for Goldilocks {
+    ghost off_law = { goldilocks_off };
+}
+
+impl CosetGenerator for WideBabyBear {
+    ghost off_law = { baby_bear_off };
+}
+
+impl CosetGenerator for WideKoalaBear {
+    ghost off_law = { koala_bear_off };
+}
+
+impl CosetGenerator for WideGoldilocks {
+    ghost off_law = { goldilocks_off };
+}
 
 /// The values of the vanishing polynomial `x^n - 1` of the subgroup H of `n = 2^log_height` elements, on the coset
 /// `shift * K` of `2^added_bits` times as many: value i is that at the points `i + 2^added_bits * j`, for all j, since
@@ -36,8 +70,8 @@ pub fn vanishing_values<F: TwoAdicField>(
     Ok(values)
 }
 
-/// The inverses of these values, in the same order, where each has one: `is_off_coset(n, F::ONE, shift)` tells, for n
-/// the order of K. `GENERATOR` of each named field is such a shift, for every K. An error is out of memory.
+/// The inverses of these values, in the same order, where each has one: that is so exactly where
+/// `shift^(2^(log_height + added_bits)) - 1` has one. An error is out of memory.
 pub fn vanishing_inverses<F: TwoAdicField>(
     alloc: Global,
     log_height: usize,
@@ -57,4 +91,22 @@ pub fn vanishing_inverses<F: TwoAdicField>(
     let values = vanishing_values(alloc, log_height, added_bits, shift)?;
     let inverses = batch_multiplicative_inverse(alloc, values.as_slice())?;
     Ok(inverses)
+}
+
+/// The inverses of the values on `GENERATOR * K`, which are always there. An error is out of memory.
+pub fn vanishing_inverses_off_subgroups<F: CosetGenerator>(
+    alloc: Global,
+    log_height: usize,
+    added_bits: usize,
+) -> Result<Vec<F>, DftError>
+    requires within { log_height + added_bits ≤ F.TWO_ADICITY }
+    requires size { added_bits < 64 }
+    ensures long { IfOk result (λ v. vec_len v ≡ 2 ^ added_bits) }
+    ensures inverses { IfOk result (λ v. (i j : ℕ) → i < 2 ^ added_bits
+        → IsInverse F.ring (minus F.ring (power F.ring (point F.ring (λ n. F.value (F.generator n))
+        (log_height + added_bits) (F.value F.GENERATOR) (i + 2 ^ added_bits * j)) (2 ^ log_height)) F.ring.one)
+        (F.value (get_or v.items i F.zero))) }
+    ensures room { IfErr result (IsWithin (type_size F.row) (2 ^ added_bits)) }
+{
+    vanishing_inverses(alloc, log_height, added_bits, F::GENERATOR)
 }
