@@ -1,6 +1,10 @@
 -- The places of a query in its layers, and what is opened there.
-use Rattle.std.proofs.Common.{◌≡◌, ℕ, suc, ◌+◌, ◌-◌, ◌*◌, ◌/◌, ◌^◌, ◌<◌, List, [], ◌∷◌, length, refl, ap, subst, sym, ◌∙◌, arith}
+use Rattle.std.proofs.Common.{◌≡◌, ◌↔◌, ◌⊎◌, inl, inr, ℕ, suc, ◌+◌, ◌-◌, ◌*◌, ◌/◌, ◌^◌, ◌<◌, ◌≤◌, Bool, false, IsTrue}
+use Rattle.std.proofs.Common.{List, [], ◌∷◌, ◌++◌, length, get_or, refl, ap, subst, sym, ◌∙◌, arith}
+use Rattle.std.proofs.Math.ListN.{get_or-append}
 use Rattle.std.proofs.Math.Nat.{two-pow-succ}
+use Rattle.std.proofs.lemmas.Bool.{cases_lt, false≢true}
+use Rattle.std.proofs.lemmas.List.{get_or_push}
 use Rattle.std.proofs.lemmas.Nat.{shr_below}
 use Rattle.p3_field.specs.declared.fields.Valued.{Ghosts as FieldMembers}
 use Rattle.p3_matrix.specs.BitOrder.{bit_reversal, rev}
@@ -58,3 +62,37 @@ module _ {F : Type 0} (f : FieldMembers F) (m : RowMajor F) (whole : IsRowMajor 
       pair_same f.ring beta refl (ap (λ n. (values_of f m).entry n j) near ∙ sym (entries_of_pair full 0 j (omega arith) in_row))
       (ap (λ n. (values_of f m).entry n j) far ∙ sym (entries_of_pair full 1 j (omega arith) in_row)) (ap (λ n. (values_of f next).entry n j) back)
       (folded.rows (rev k i) j (rev-lt k i) in_row)
+
+-- one more query was drawn and checked
+pub one_more_query : {V : Type 0} (P : ℕ → V → Type 0) (indexes : List ℕ) (queries : List V) (n i : ℕ) (v : V) (was now : Bool) (Yes : Type 0)
+    → length indexes ≡ n → ((d : V) → get_or queries n d ≡ v)
+    → (IsTrue was ↔ ((q : ℕ) (d : V) → q < n → P (get_or indexes q 0) (get_or queries q d))) → (Yes ↔ P i v)
+    → ((now ≡ was) × Yes) ⊎ ((now ≡ false) × (Yes → ⊥))
+    → (IsTrue now ↔ ((q : ℕ) (d : V) → q < n + 1 → P (get_or (indexes ++ i ∷ []) q 0) (get_or queries q d)))
+one_more_query {V} P indexes queries n i v was now Yes long here before one either = (forward either, λ all. backward all either)
+  where
+    first : (q : ℕ) → q < n → get_or (indexes ++ i ∷ []) q 0 ≡ get_or indexes q 0
+    first q less = get_or-append indexes (i ∷ []) 0 q (omega (arith, less, long))
+
+    last : get_or (indexes ++ i ∷ []) n 0 ≡ i
+    last = get_or_push indexes i 0 n long
+
+    forward : ((now ≡ was) × Yes) ⊎ ((now ≡ false) × (Yes → ⊥)) → IsTrue now → (q : ℕ) (d : V) → q < n + 1
+        → P (get_or (indexes ++ i ∷ []) q 0) (get_or queries q d)
+    forward (inr refused) true_now q d below = absurd (false≢true (sym refused.0 ∙ true_now))
+    forward (inl taken) true_now q d below = cases (cases_lt q n)
+      where
+        cases : (q < n) ⊎ (n ≤ q) → P (get_or (indexes ++ i ∷ []) q 0) (get_or queries q d)
+        cases (inl less) = subst (λ (k : ℕ). P k (get_or queries q d)) (sym (first q less)) (before.0 (sym taken.0 ∙ true_now) q d less)
+        cases (inr more) =
+            let same : n ≡ q = omega (arith, below, more) in
+            subst (λ (k : ℕ). P (get_or (indexes ++ i ∷ []) k 0) (get_or queries k d)) same
+            (subst (λ (k : ℕ). P k (get_or queries n d)) (sym last) (subst (P i) (sym (here d)) (one.0 taken.1)))
+
+    backward : ((q : ℕ) (d : V) → q < n + 1 → P (get_or (indexes ++ i ∷ []) q 0) (get_or queries q d))
+        → ((now ≡ was) × Yes) ⊎ ((now ≡ false) × (Yes → ⊥)) → IsTrue now
+    backward all (inl taken) =
+        taken.0 ∙ before.1 (λ q d less. subst (λ (k : ℕ). P k (get_or queries q d)) (first q less) (all q d (omega (arith, less))))
+    backward all (inr refused) =
+        let new = subst (λ (k : ℕ). P k (get_or queries n v)) last (all n v (omega arith)) in
+        absurd (refused.1 (one.1 (subst (P i) (here v) new)))

@@ -1,12 +1,14 @@
 -- The commit phase and the queries of FRI: codewords with rows in bit reversed order, each folded to the next and committed to by
 -- the tree over its pairs of neighbouring rows.
-use Rattle.std.specs.Prelude.{◌≡◌, ℕ, suc, ◌+◌, ◌-◌, ◌*◌, ◌/◌, ◌%◌, ◌^◌, ◌<◌, List, length, map}
+use Rattle.std.specs.Prelude.{◌≡◌, ℕ, suc, ◌+◌, ◌-◌, ◌*◌, ◌/◌, ◌%◌, ◌^◌, ◌<◌, ◌≤◌, List, length, map, get_or}
+use Rattle.std.specs.List.{FoldsTo as Chained}
 use Rattle.p3_field.specs.Ring.{power}
 use Rattle.p3_field.specs.declared.fields.Valued.{Ghosts as FieldMembers}
 use Rattle.p3_matrix.specs.BitOrder.{bit_reversal, rev}
 use Rattle.p3_matrix.specs.Cosets.{point, values_of}
 use Rattle.p3_matrix.specs.Matrix.{Matrix}
 use Rattle.p3_matrix.specs.RowMajor.{RowMajor, height, rows_from}
+use Rattle.examples.specs.declared.fri.Opening.{Opening}
 use Rattle.examples.specs.Foldings.{AreFoldedRows, IsFoldedPair}
 use Rattle.examples.specs.MerkleTrees.{AreNodes, climbed}
 
@@ -17,6 +19,23 @@ pub record IsOpened {F D V : Type 0} (worth : D → V) (join : V → V → V) (o
   pub width : pair.width ≡ w
   pub long : length path ≡ k
   pub leads : climbed join (2 ^ k + i) (of_row pair.values) (map worth path) ≡ root
+
+-- a proof has the shape that a verifier asks for: the roots are no more than the first codeword's logarithm, the last codeword has the
+-- height that is left, and there are as many queries as are drawn
+pub record HasProofShape (two_adicity log drawn roots height queries : ℕ) : Type 0 where
+  pub some : 1 ≤ log
+  pub fits_u64 : log < 64
+  pub within : log ≤ two_adicity
+  pub layers : roots ≤ log
+  pub last : height ≡ 2 ^ (log - roots)
+  pub all_drawn : queries ≡ drawn
+
+-- the transcript took in the roots, in their order, and after each its challenge was drawn
+pub record AreDrawn {T D F : Type 0} (draws : T → D → F → T → Type 0) (before : T) (roots : List D) (challenges : List F) (after : T) : Type 0 where
+  pub rounds : List (D × F)
+  pub of_roots : map (λ r. r.0) rounds ≡ roots
+  pub are_challenges : map (λ r. r.1) rounds ≡ challenges
+  pub drawn : Chained (λ t r u. draws t r.0 r.1 u) before rounds after
 
 module _ {F : Type 0} (f : FieldMembers F) (g : ℕ → f.Element) where
   -- pair i of the codeword on the coset of s of order 2 ^ (k + 1) is folded with beta to the row `next`, of the coset of s * s
@@ -47,3 +66,16 @@ module _ {F : Type 0} (f : FieldMembers F) (g : ℕ → f.Element) where
       (l : ℕ) → l < n
       → IsLayer worth join of_row (log - suc l) (power f.ring s (2 ^ l)) (betas l) (codewords l) (codewords (suc l))
       (nodes l)
+
+  -- what is opened for query i is accepted: for each root a pair with a path that leads to it, and each pair is folded to the row of the
+  -- next one, or of the last codeword
+  abbrev pub IsAcceptedQuery : {D V : Type 0} (worth : D → V) (join : V → V → V) (of_row : List F → V) (log : ℕ) (s : f.Element)
+      (betas : ℕ → f.Element) (roots : List D) (last : RowMajor F) (i : ℕ) (openings : List (Opening F D))
+      → Type 0
+  IsAcceptedQuery {D} worth join of_row log s betas roots last i openings =
+      (length openings ≡ length roots)
+      × ((l : ℕ) (o : Opening F D) (d : D) → l < length openings
+      → IsOpened worth join of_row (log - suc l) (i / 2 ^ l) last.width (worth (get_or roots l d)) (get_or openings l o).pair
+      (get_or openings l o).path.items)
+      × ((o : Opening F D)
+      → FoldsDown log (length openings) s betas i (λ l. values_of f (get_or openings l o).pair) (values_of f last))

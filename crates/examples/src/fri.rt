@@ -8,9 +8,15 @@
 //! that layer's challenge and at its point, to the row that is opened of the next layer, the last to that of the last
 //! codeword. What `open` opens of layers that `commit` made has those paths, and folds so, hence an honest query is
 //! accepted (`honest_query`). `commit` draws the challenge of each layer of its root, after those of the layers before.
+//! `verify` draws challenges and the numbers of queries itself, in the order in which a prover commits, and says yes
+//! exactly where `check` does of each query. It has no condition.
+//!
+//! Not proved: that whoever has many queries accepted has committed to a codeword of low degree. A pair that is opened is
+//! the one that was committed to, unless a collision was found: of `join`, two pairs of digests that differ and are
+//! joined to one, or of `hash_row`, two pairs of rows that differ and have digests of one worth.
 
 ghost use Rattle.std.specs.Prelude.{◌≡◌, ◌↔◌, ℕ, suc, ◌+◌, ◌-◌, ◌*◌, ◌/◌, ◌%◌, ◌^◌, ◌<◌, ◌≤◌, IfErr, IfOk, IsTrue};
-ghost use Rattle.std.specs.Prelude.{[], get_or, length, map, vec_len};
+ghost use Rattle.std.specs.Prelude.{List, [], get_or, length, map, vec_len};
 ghost use Rattle.std.specs.List.{FoldsTo as Chained};
 ghost use Rattle.p3_field.specs.Ring.{IsInvertible, power};
 ghost use Rattle.p3_matrix.specs.Cosets.{values_of};
@@ -19,7 +25,8 @@ ghost use Rattle.p3_matrix.specs.RowMajor.{height, rows_from};
 ghost use Rattle.p3_matrix.specs.BitOrder.{bit_reversal};
 ghost use Rattle.p3_dft.specs.Codes.{HasDegreeBelow};
 ghost use Rattle.p3_dft.specs.Shapes.{FitsDft};
-ghost use Rattle.examples.specs.Fri.{AreLayers, FoldsDown, FoldsTo, IsLayer, IsOpened};
+ghost use Rattle.examples.specs.Fri.{AreDrawn, AreLayers, FoldsDown, FoldsTo, HasProofShape, IsAcceptedQuery, IsLayer};
+ghost use Rattle.examples.specs.Fri.{IsOpened};
 
 use crate::folding::{fold, folds_to};
 use crate::merkle_paths::{path_of, root_of_path, tree_of_pairs};
@@ -467,4 +474,149 @@ pub fn honest_query<F: TwoAdicField, H: RowHash<F>, T: Transcript<F, H::Digest>>
     let (layers, commitment) = commit(hash, codeword, log_height, shift, folds, transcript)?;
     let openings = open::<F, H>(alloc, &layers, log_height, index)?;
     Ok(check(hash, &commitment, index, &openings))
+}
+
+/// A transcript that takes in the last codeword too, and from which the numbers of queries are drawn then.
+pub trait QueryTranscript<F, D>: Transcript<F, D> {
+    ghost use Rattle.std.specs.Prelude.{◌^◌, ◌<◌, ℕ};
+    ghost use Rattle.p3_matrix.specs.RowMajor.{RowMajor};
+
+    // From one state it takes in this matrix, and is then in the other.
+    ghost takes: { Self → RowMajor F → Self → Type 0 };
+
+    // From one state it draws this number of so many bits, and is then in the other.
+    ghost draws_index: { Self → ℕ → ℕ → Self → Type 0 };
+
+    /// Takes in a matrix.
+    fn take(&mut self, last: &RowMajorMatrix<F>)
+        ensures { takes self.old last.now self.new };
+
+    /// Makes a number below `2^bits` of all that it took in before.
+    fn draw_index(&mut self, bits: usize) -> usize
+        requires { bits < 64 }
+        ensures drawn { draws_index self.old bits result self.new }
+        ensures below { result < 2 ^ bits };
+}
+
+/// What a verifier asks of a proof.
+#[derive(Clone, Copy)]
+pub struct Parameters<F> {
+    /// The logarithm of the first codeword's height, at least one.
+    pub log_height: usize,
+    /// The shift of its coset.
+    pub shift: F,
+    /// How many queries are drawn.
+    pub queries: usize,
+}
+
+// Whether so many roots and queries and a last codeword of this height fit the parameters.
+fn has_shape<F: TwoAdicField>(
+    parameters: &Parameters<F>,
+    roots: usize,
+    height: usize,
+    queries: usize,
+) -> bool
+    ensures { IsTrue result ↔ HasProofShape F.TWO_ADICITY parameters.now.log_height parameters.now.queries roots
+        height queries }
+{
+    let log_height = parameters.log_height;
+    if log_height < 1 || log_height >= 64 {
+        return false;
+    }
+    if log_height > F::TWO_ADICITY || roots > log_height {
+        return false;
+    }
+    height == 1 << (log_height - roots) && queries == parameters.queries
+}
+
+// The challenges of the roots, each drawn after those before it.
+fn draw_challenges<F: TwoAdicField, D: Copy, T: Transcript<F, D>>(
+    alloc: Global,
+    transcript: &mut T,
+    roots: &[D],
+) -> Result<Vec<F>, DftError>
+    ensures count { IfOk result (λ v. vec_len v ≡ length roots.now) }
+    ensures drawn { IfOk result (λ v. AreDrawn T.draws transcript.old roots.now v.items transcript.new) }
+    ensures refused { IfErr result WasOutOfMemory }
+{
+    let mut challenges = growth::with_capacity(alloc, roots.len())?;
+    for l in 0..roots.len() {
+        challenges.push_reserved(transcript.draw(roots[l]));
+    }
+    Ok(challenges)
+}
+
+// Whether each query that is drawn is accepted.
+fn are_accepted<F: TwoAdicField, H: RowHash<F>, T: QueryTranscript<F, H::Digest>>(
+    hash: &H,
+    transcript: &mut T,
+    commitment: &Commitment<F, H::Digest>,
+    queries: &[Vec<Opening<F, H::Digest>>],
+) -> bool
+    requires some { 1 ≤ commitment.now.log_height }
+    requires layers { vec_len commitment.now.roots ≤ commitment.now.log_height }
+    requires challenges { vec_len commitment.now.challenges ≡ vec_len commitment.now.roots }
+    requires fits_u64 { commitment.now.log_height < 64 }
+    requires within { commitment.now.log_height ≤ F.TWO_ADICITY }
+    requires last { height commitment.now.last ≡ 2 ^ (commitment.now.log_height - vec_len commitment.now.roots) }
+    ensures { (indexes : List ℕ) × (length indexes ≡ length queries.now)
+        × Chained (λ t i u. T.draws_index t (commitment.now.log_height - 1) i u) transcript.old indexes transcript.new
+        × (IsTrue result ↔ ((q : ℕ) (d : _) → q < length queries.now → IsAcceptedQuery F.Valued.own
+        (λ n. F.value (F.generator n)) H.worth (H.of_pair hash.now) (H.of_row hash.now) commitment.now.log_height
+        (F.value commitment.now.shift) (λ l. F.value (get_or commitment.now.challenges.items l F.zero))
+        commitment.now.roots.items commitment.now.last (get_or indexes q 0) (get_or queries.now q d).items)) }
+{
+    let mut accepted = true;
+    for q in 0..queries.len() {
+        let index = transcript.draw_index(commitment.log_height - 1);
+        if !check(hash, commitment, index, &queries[q]) {
+            accepted = false;
+        }
+    }
+    accepted
+}
+
+/// Whether a proof is accepted by a verifier who draws the challenges and the numbers of the queries itself, in the
+/// order in which a prover commits: the challenge of each root after it, then, when the last codeword was taken in, the
+/// numbers. The roots, the last codeword and what is opened need not have any shape.
+///
+/// It says yes exactly where the shapes are those that the parameters ask for and `check` accepts each query that is
+/// drawn, with the challenges that are drawn. It does not test the degree of the last codeword, which the caller tests.
+/// An error is out of memory.
+pub fn verify<F: TwoAdicField, H: RowHash<F>, T: QueryTranscript<F, H::Digest>>(
+    hash: &H,
+    transcript: &mut T,
+    parameters: Parameters<F>,
+    roots: Vec<H::Digest>,
+    last: RowMajorMatrix<F>,
+    queries: &[Vec<Opening<F, H::Digest>>],
+) -> Result<bool, DftError>
+    ensures shape { IfOk result (λ yes. IsTrue yes → HasProofShape F.TWO_ADICITY parameters.log_height
+        parameters.queries (vec_len roots) (height last) (length queries.now)) }
+    ensures verdict { IfOk result (λ yes. HasProofShape F.TWO_ADICITY parameters.log_height parameters.queries
+        (vec_len roots) (height last) (length queries.now)
+        → (challenges : List F) × (indexes : List ℕ) × (drawn : T) × (taken : T)
+        × AreDrawn T.draws transcript.old roots.items challenges drawn × T.takes drawn last taken
+        × (length indexes ≡ length queries.now)
+        × Chained (λ t i u. T.draws_index t (parameters.log_height - 1) i u) taken indexes transcript.new
+        × (IsTrue yes ↔ ((q : ℕ) (d : _) → q < length queries.now → IsAcceptedQuery F.Valued.own
+        (λ n. F.value (F.generator n)) H.worth (H.of_pair hash.now) (H.of_row hash.now) parameters.log_height
+        (F.value parameters.shift) (λ l. F.value (get_or challenges l F.zero)) roots.items last
+        (get_or indexes q 0) (get_or queries.now q d).items))) }
+    ensures refused { IfErr result WasOutOfMemory }
+{
+    if !has_shape(&parameters, roots.len(), last.height(), queries.len()) {
+        return Ok(false);
+    }
+    let alloc = *last.allocator();
+    let challenges = draw_challenges::<F, H::Digest, T>(alloc, transcript, &roots)?;
+    transcript.take(&last);
+    let commitment = Commitment {
+        roots,
+        challenges,
+        last,
+        log_height: parameters.log_height,
+        shift: parameters.shift,
+    };
+    Ok(are_accepted(hash, transcript, &commitment, queries))
 }

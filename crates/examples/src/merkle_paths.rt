@@ -2,7 +2,8 @@
 //!
 //! Proved: the nodes are those of the tree over the digests of the pairs, and the path of a leaf leads from its digest
 //! to the root. A path of a tree's height that leads to its root starts from the digest of the tree's own leaf, or it
-//! meets a collision: a pair that differs from the tree's pair in its place, and is joined to the same.
+//! meets a collision: a pair that differs from the tree's pair in its place, and is joined to the same. Rows that differ
+//! may have digests of one worth, which is a collision of `hash_row`.
 
 ghost use Rattle.std.specs.Prelude.{◌≡◌, ℕ, ◌+◌, ◌-◌, ◌*◌, ◌%◌, ◌^◌, ◌<◌, ◌≤◌, IfErr, IfOk, get_or, length, map};
 ghost use Rattle.std.specs.Prelude.{vec_len};
