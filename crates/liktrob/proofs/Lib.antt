@@ -1,2 +1,3 @@
+pub mod ColumnShifts
 pub mod Named
 pub mod Shapes

@@ -3,11 +3,14 @@ use Rattle.std.specs.Prelude.{◌≡◌, ◌↔◌, ℕ, ◌+◌, ◌≤◌, Boo
 use Rattle.std.specs.List.{AllZip}
 use Rattle.p3_field.specs.declared.fields.Valued.{Ghosts as FieldMembers}
 use Rattle.p3_matrix.specs.BitOrder.{reversed_rows}
-use Rattle.p3_matrix.specs.Cosets.{IsValues, values_of}
+use Rattle.p3_matrix.specs.Cosets.{IsValues, point, values_of}
 use Rattle.p3_matrix.specs.RowMajor.{RowMajor}
 use Rattle.p3_dft.specs.Codes.{IsCodeword}
+use Rattle.p3_dft.specs.ColumnCosets.{IsInterpolationByColumns, IsTransformByColumns, column_shift}
 use Rattle.p3_dft.specs.Extensions.{IsExtension}
 use Rattle.p3_dft.specs.Transforms.{IsInterpolation}
+use Rattle.liktrob.specs.declared.engines.Direction.{Direction}
+use Rattle.liktrob.specs.declared.engines.Direction.TheVariants.{ToValues, ToCoefficients}
 use Rattle.liktrob.specs.declared.engines.Operation.{Operation}
 use Rattle.liktrob.specs.declared.engines.Operation.TheVariants.{CosetDft, CosetIdft, CosetLde, CosetLdeBitReversed}
 use Rattle.liktrob.specs.Words.{AreNamed, FieldInWords, Names}
@@ -26,6 +29,11 @@ undoes CosetIdft = true
 undoes (CosetLde a) = false
 undoes (CosetLdeBitReversed a) = false
 
+-- this direction takes the inverses of the columns' shifts
+abbrev pub undoes_shifts : Direction → Bool
+undoes_shifts ToValues = false
+undoes_shifts ToCoefficients = true
+
 -- of a matrix of 2 ^ k rows an operation answers: the values of its columns' polynomials on the coset of s of 2 ^ a times as many points,
 -- the coefficients of the polynomials with these values, or their values on the larger coset, in natural or in bit reversed order
 module _ {F : Type 0} (f : FieldMembers F) (generator : ℕ → F) where
@@ -34,6 +42,11 @@ module _ {F : Type 0} (f : FieldMembers F) (generator : ℕ → F) where
   IsAnswer CosetIdft m k s out = IsInterpolation f generator m s out
   IsAnswer (CosetLde a) m k s out = IsExtension f generator m a s out
   IsAnswer (CosetLdeBitReversed a) m k s out = IsExtension f generator m a s (reversed_rows (k + a) out)
+
+  -- where each column lies on the coset of its own shift: the values of its polynomial, or the coefficients of the one with these values
+  abbrev pub IsAnswerByColumns : Direction → RowMajor F → (ℕ → f.Element) → RowMajor F → Type 0
+  IsAnswerByColumns ToValues m shifts out = IsTransformByColumns f generator m shifts out
+  IsAnswerByColumns ToCoefficients m shifts out = IsInterpolationByColumns f generator m shifts out
 
 module _ {F W : Type 0} (f : FieldInWords F W) where
   -- the answer's words name what an operation answers of what words and a shift name
@@ -56,3 +69,23 @@ module _ {F W : Type 0} (f : FieldInWords F W) where
     pub exact : answer ≡ 1
         ↔ IsCodeword f.members f.generator (record { log_message = log_message; added_bits = added_bits; shift = by })
         (values_of f.members word)
+
+  -- the answer's words name what words, with a shift and a step of the columns' shifts, become in this direction
+  pub record IsAnsweredByColumns (direction : Direction) (words : List W) (width : ℕ) (shift step : W) (answer : List W) : Type 0 where
+    pub log : ℕ
+    pub asked : RowMajor F
+    pub by : F
+    pub then_by : F
+    pub named : AreNamed f words width log shift asked by
+    pub step_named : Names f step then_by
+    pub found : RowMajor F
+    pub answers : IsAnswerByColumns f.members f.generator direction asked
+        (column_shift f.members.ring (f.members.value by) (f.members.value then_by)) found
+    pub told : AllZip (Names f) answer found.values
+
+  -- the answer names the point with this index of the coset of the shift of the subgroup of order 2 ^ bits
+  pub record IsPoint (bits : ℕ) (shift : W) (index : ℕ) (answer : W) : Type 0 where
+    pub by : F
+    pub named : Names f shift by
+    pub told : f.number answer
+        ≡ f.members.number (point f.members.ring (λ n. f.members.value (f.generator n)) bits (f.members.value by) index)

@@ -4,6 +4,7 @@ use Rattle.std.specs.List.{All, AllZip}
 use Rattle.p3_field.specs.Ring.{IsInvertible}
 use Rattle.p3_field.specs.declared.fields.Valued.{Ghosts as FieldMembers}
 use Rattle.p3_matrix.specs.RowMajor.{RowMajor, height}
+use Rattle.p3_dft.specs.ColumnCosets.{column_shift}
 use Rattle.p3_dft.specs.Shapes.{FitsLde}
 
 -- a field, the generators of its subgroups of order 2 ^ n for n up to two_adicity, and words that name its elements by
@@ -35,9 +36,18 @@ module _ {F W : Type 0} (f : FieldInWords F W) where
   abbrev pub AreBelow : W → List W → Type 0
   AreBelow shift words = (f.number shift < f.modulus) × All (λ word. f.number word < f.modulus) words
 
+  -- so has a step besides
+  abbrev pub AreBelowWithStep : W → W → List W → Type 0
+  AreBelowWithStep step shift words = (f.number step < f.modulus) × AreBelow shift words
+
   -- the shift names an element with an inverse
   abbrev pub HasInverse : W → Type 0
   HasInverse shift = (x : F) × Names shift x × IsInvertible f.members.ring (f.members.value x)
+
+  -- a shift and a step name elements by which the shift of each of so many columns has an inverse
+  abbrev pub HaveInverses : W → W → ℕ → Type 0
+  HaveInverses shift step width = (s t : F) × Names shift s × Names step t
+      × ((j : ℕ) → j < width → IsInvertible f.members.ring (column_shift f.members.ring (f.members.value s) (f.members.value t) j))
 
   -- words, row after row, and a shift name the entries of a matrix of 2 ^ log rows of this width, and an element
   pub record AreNamed (words : List W) (w log : ℕ) (shift : W) (m : RowMajor F) (s : F) : Type 0 where

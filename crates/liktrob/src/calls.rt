@@ -1,14 +1,16 @@
 //! The calls, over any field whose elements have words.
 
-ghost use Rattle.std.specs.Prelude.{◌≡◌, ◌≢◌, ℕ, ◌*◌, ◌/◌, ◌^◌, ◌≤◌, ◌↔◌, ⊤, List, length, IfOk, IsTrue, MatchBool};
-ghost use Rattle.std.specs.Prelude.{true};
+ghost use Rattle.std.specs.Prelude.{◌≡◌, ◌≢◌, ℕ, ◌*◌, ◌/◌, ◌^◌, ◌<◌, ◌≤◌, ◌↔◌, ⊤, ⊥, List, length, IfOk};
+ghost use Rattle.std.specs.Prelude.{IsTrue, MatchBool, true};
 ghost use Rattle.std.specs.List.{AllZip};
 ghost use Rattle.p3_field.specs.Ring.{IsInvertible};
-ghost use Rattle.liktrob.specs.Answers.{IsAnswered, IsToldCodeword, added, undoes};
+ghost use Rattle.liktrob.specs.Answers.{IsAnswered, IsAnsweredByColumns, IsPoint, IsToldCodeword};
+ghost use Rattle.liktrob.specs.Answers.{added, undoes, undoes_shifts};
 ghost use Rattle.liktrob.specs.Statuses.{IsOutOfMemory, IsStatus, Tells, refusal_of};
-ghost use Rattle.liktrob.specs.Words.{AreBelow, Fits, HasInverse, Names, in_words};
+ghost use Rattle.liktrob.specs.Words.{AreBelow, AreBelowWithStep, Fits, HasInverse, HaveInverses, Names};
+ghost use Rattle.liktrob.specs.Words.{in_words};
 
-use crate::engines::{Engine, Operation, answer_by};
+use crate::engines::{Direction, Engine, Operation, answer_by, answer_columns_by};
 use crate::refusal::Refusal;
 use crate::words::{WordField, elements, write};
 use p3_dft::{RowMajorMatrix, TwoAdicField, fits_lde, has_degree_below};
@@ -65,6 +67,50 @@ pub fn answer_into<F: WordField>(
     match answer::<F>(alloc, operation, engine, words, width, shift, room) {
         Ok(found) => {
             write(found.values(), out);
+            0
+        }
+        Err(refusal) => refusal.status(),
+    }
+}
+
+/// Transforms columns in place of the words, where column j lies on the coset of `shift * step^j`.
+pub fn answer_columns<F: WordField>(
+    alloc: Global,
+    direction: Direction,
+    engine: u32,
+    words: &mut [F::Word],
+    width: usize,
+    shift: F::Word,
+    step: F::Word,
+) -> u32
+    ensures answer { let f = in_words F.Valued.own F.generator F.TWO_ADICITY F.ORDER_U64 F.word_number in
+        result ≡ 0 → IsAnsweredByColumns f direction words.old width shift step words.new }
+    ensures kept { result ≢ 0 → words.new ≡ words.old }
+    ensures status { let f = in_words F.Valued.own F.generator F.TWO_ADICITY F.ORDER_U64 F.word_number in
+        IsStatus result (engine ≤ 5) (AreBelowWithStep f step shift words.old)
+        (Fits F.TWO_ADICITY (length words.old) width 0 (length words.old))
+        (MatchBool (undoes_shifts direction) (HaveInverses f shift step width) ⊤)
+        (IsOutOfMemory F.row (length words.old) 0) }
+{
+    match columns::<F>(alloc, direction, engine, words, width, shift, step) {
+        Ok(found) => {
+            write(found.values(), words);
+            0
+        }
+        Err(refusal) => refusal.status(),
+    }
+}
+
+/// Writes `shift * g^index`, where g generates the subgroup of order `2^bits`.
+pub fn point<F: WordField>(bits: usize, shift: F::Word, index: usize, answer: &mut F::Word) -> u32
+    ensures answer { let f = in_words F.Valued.own F.generator F.TWO_ADICITY F.ORDER_U64 F.word_number in
+        result ≡ 0 → IsPoint f bits shift index answer.new }
+    ensures kept { result ≢ 0 → answer.new ≡ answer.old }
+    ensures status { IsStatus result ⊤ (F.word_number shift < F.ORDER_U64) (bits ≤ F.TWO_ADICITY) ⊤ (λ _. ⊥) }
+{
+    match point_of::<F>(bits, shift, index) {
+        Ok(found) => {
+            *answer = found.to_word();
             0
         }
         Err(refusal) => refusal.status(),
@@ -132,6 +178,72 @@ fn answer<F: WordField>(
         operation.undoes_shift(),
     )?;
     Ok(answer_by(engine, operation, mat, shift)?)
+}
+
+// What columns become where column j lies on the coset of `shift * step^j`.
+fn columns<F: WordField>(
+    alloc: Global,
+    direction: Direction,
+    engine: u32,
+    words: &[F::Word],
+    width: usize,
+    shift: F::Word,
+    step: F::Word,
+) -> Result<RowMajorMatrix<F>, Refusal>
+    ensures told { let f = in_words F.Valued.own F.generator F.TWO_ADICITY F.ORDER_U64 F.word_number in
+        Tells (refusal_of result) (engine ≤ 5) (AreBelowWithStep f step shift words.now)
+        (Fits F.TWO_ADICITY (length words.now) width 0 (length words.now))
+        (MatchBool (undoes_shifts direction) (HaveInverses f shift step width) ⊤)
+        (IsOutOfMemory F.row (length words.now) 0) }
+    ensures size { IfOk result (λ out. length out.values ≡ length words.now) }
+    ensures answer { let f = in_words F.Valued.own F.generator F.TWO_ADICITY F.ORDER_U64 F.word_number in
+        IfOk result (λ out. (answer : List F.Word) → AllZip (Names f) answer out.values
+        → IsAnsweredByColumns f direction words.now width shift step answer) }
+{
+    if Engine::of(engine).is_none() {
+        return Err(Refusal::Engine);
+    }
+    if !F::is_below(shift) {
+        return Err(Refusal::Number);
+    }
+    if !F::is_below(step) {
+        return Err(Refusal::Number);
+    }
+    let shape = Shape {
+        count: words.len(),
+        width,
+        added_bits: 0,
+        extended: words.len(),
+    };
+    let shift = F::from_word(shift);
+    let step = F::from_word(step);
+    // The shift of each column has an inverse where that of the last one has.
+    let last = shift * step.exp_u64(width.saturating_sub(1) as u64);
+    let (engine, mat, _last) = asked::<F>(
+        alloc,
+        engine,
+        words,
+        shape,
+        last.to_word(),
+        direction.undoes_shifts(),
+    )?;
+    Ok(answer_columns_by(engine, direction, mat, shift, step)?)
+}
+
+// The point with this index on the coset of the shift of the subgroup of order `2^bits`.
+fn point_of<F: WordField>(bits: usize, shift: F::Word, index: usize) -> Result<F, Refusal>
+    ensures told { Tells (refusal_of result) ⊤ (F.word_number shift < F.ORDER_U64) (bits ≤ F.TWO_ADICITY) ⊤ (λ _. ⊥) }
+    ensures answer { let f = in_words F.Valued.own F.generator F.TWO_ADICITY F.ORDER_U64 F.word_number in
+        IfOk result (λ found. (answer : F.Word) → Names f answer found → IsPoint f bits shift index answer) }
+{
+    if !F::is_below(shift) {
+        return Err(Refusal::Number);
+    }
+    if bits > F::TWO_ADICITY {
+        return Err(Refusal::Shape);
+    }
+    let root = F::two_adic_generator(bits);
+    Ok(F::from_word(shift) * root.exp_u64(index as u64))
 }
 
 // Whether words name a codeword: the coefficients of what they name are zero behind those of a message.

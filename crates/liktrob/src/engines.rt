@@ -1,20 +1,23 @@
 //! The engines by number, and the operations that each answers.
 
-ghost use Rattle.std.specs.Prelude.{◌≡◌, ℕ, ◌+◌, ◌*◌, ◌^◌, ◌≤◌, ◌↔◌, length, IfErr, IfOk, IsSome, slice_get, true};
+ghost use Rattle.std.specs.Prelude.{◌≡◌, ℕ, ◌+◌, ◌*◌, ◌^◌, ◌<◌, ◌≤◌, ◌↔◌, length, IfErr, IfOk, IsSome, slice_get};
+ghost use Rattle.std.specs.Prelude.{true};
 ghost use Rattle.std.specs.Mem.{type_size};
 ghost use Rattle.p3_field.specs.Ring.{IsInvertible};
 ghost use Rattle.p3_matrix.specs.RowMajor.{RowMajor, height};
 ghost use Rattle.p3_matrix.specs.BitOrder.{reversed_rows};
 ghost use Rattle.p3_matrix.specs.Room.{IsWithinEither};
+ghost use Rattle.p3_dft.specs.ColumnCosets.{column_shift};
 ghost use Rattle.p3_dft.specs.Extensions.{IsExtension};
-ghost use Rattle.p3_dft.specs.Shapes.{FitsLde};
+ghost use Rattle.p3_dft.specs.Shapes.{FitsDft, FitsLde};
 ghost use Rattle.p3_dft.specs.Transforms.{IsExtendedTransform};
-ghost use Rattle.liktrob.specs.Answers.{IsAnswer, added, undoes};
+ghost use Rattle.liktrob.specs.Answers.{IsAnswer, IsAnswerByColumns, added, undoes, undoes_shifts};
 ghost use Rattle.liktrob.specs.Statuses.{IsOutOfMemory};
 
 use p3_dft::{
     DftError, Evaluations, Layout, NaiveDft, Radix2Bowers, Radix2DFTSmallBatch, Radix2Dit,
-    Radix2DitParallel, RowMajorMatrix, TwoAdicField, TwoAdicSubgroupDft,
+    Radix2DitParallel, RowMajorMatrix, TwoAdicField, TwoAdicSubgroupDft, coset_dft_columns,
+    coset_idft_columns,
 };
 
 /// An engine of `p3_dft`, or the one of them that is the fastest for what is asked.
@@ -235,4 +238,86 @@ fn bit_reversed_extension<F: TwoAdicField, D: TwoAdicSubgroupDft<F>>(
         { coefficients },
     )?;
     Ok(values.bit_reverse_rows())
+}
+
+/// In which direction columns that lie on cosets of their own are transformed.
+#[derive(Clone, Copy)]
+pub enum Direction {
+    /// Values on the cosets, of coefficients.
+    ToValues,
+    /// Coefficients of values on the cosets.
+    ToCoefficients,
+}
+
+impl Direction {
+    /// Whether the shift of each column is to have an inverse.
+    pub fn undoes_shifts(self) -> bool
+        ensures { result ≡ undoes_shifts self }
+    {
+        match self {
+            Direction::ToValues => false,
+            Direction::ToCoefficients => true,
+        }
+    }
+}
+
+/// What the engine answers where column j lies on the coset of `shift * step^j`.
+pub fn answer_columns_by<F: TwoAdicField>(
+    engine: Engine,
+    direction: Direction,
+    mat: RowMajorMatrix<F>,
+    shift: F,
+    step: F,
+) -> Result<RowMajorMatrix<F>, DftError>
+    requires fits { FitsDft F.TWO_ADICITY (height mat) mat.width }
+    requires invertible { undoes_shifts direction ≡ true → (j : ℕ) → j < mat.width
+        → IsInvertible F.ring (column_shift F.ring (F.value shift) (F.value step) j) }
+    ensures size { IfOk result (λ out. length out.values ≡ length mat.values) }
+    ensures answer { IfOk result (λ out. IsAnswerByColumns F.Valued.own F.generator direction mat
+        (column_shift F.ring (F.value shift) (F.value step)) out) }
+    ensures refused { IfErr result (IsOutOfMemory F.row (length mat.values) 0) }
+{
+    match engine {
+        Engine::Naive => answer_columns_to(&mut NaiveDft::default(), direction, mat, shift, step),
+        Engine::Dit => answer_columns_to(&mut Radix2Dit::default(), direction, mat, shift, step),
+        Engine::Parallel => answer_columns_to(
+            &mut Radix2DitParallel::default(),
+            direction,
+            mat,
+            shift,
+            step,
+        ),
+        Engine::SmallBatch => answer_columns_to(
+            &mut Radix2DFTSmallBatch::default(),
+            direction,
+            mat,
+            shift,
+            step,
+        ),
+        Engine::Fastest | Engine::Bowers => {
+            answer_columns_to(&mut Radix2Bowers::default(), direction, mat, shift, step)
+        }
+    }
+}
+
+fn answer_columns_to<F: TwoAdicField, D: TwoAdicSubgroupDft<F>>(
+    engine: &mut D,
+    direction: Direction,
+    mat: RowMajorMatrix<F>,
+    shift: F,
+    step: F,
+) -> Result<RowMajorMatrix<F>, DftError>
+    requires fits { FitsDft F.TWO_ADICITY (height mat) mat.width }
+    requires invertible { undoes_shifts direction ≡ true → (j : ℕ) → j < mat.width
+        → IsInvertible F.ring (column_shift F.ring (F.value shift) (F.value step) j) }
+    ensures size { IfOk result (λ out. length out.values ≡ length mat.values) }
+    ensures answer { IfOk result (λ out. IsAnswerByColumns F.Valued.own F.generator direction mat
+        (column_shift F.ring (F.value shift) (F.value step)) out) }
+    ensures refused { IfErr result (IsWithinEither (type_size F.row) (length mat.values)
+        D.facts.table_bytes (D.facts.tables engine.old + 2)) }
+{
+    match direction {
+        Direction::ToValues => coset_dft_columns(engine, mat, shift, step),
+        Direction::ToCoefficients => coset_idft_columns(engine, mat, shift, step),
+    }
 }
