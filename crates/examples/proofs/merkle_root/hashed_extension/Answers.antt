@@ -4,11 +4,16 @@ use Rattle.p3_matrix.specs.RowMajor.{height, row}
 use Rattle.p3_dft.proofs.Calls.PublishedExtensions.{physical_height}
 use Rattle.examples.specs.MerkleTrees.{AreHashed}
 use Rattle.examples.proofs.MerkleTrees.{all_hashed}
+use Rattle.examples.proofs.Refusals.{told_by_growth}
 use Rattle.examples.proofs.merkle_root.hashed_extension.Goals as goal
 
 -- 2 ^ a times as many as 2 ^ k
 counted : (count high k a rows : ℕ) → count ≡ high * 2 ^ a → high ≡ 2 ^ k → rows ≡ 2 ^ (k + a) → count ≡ rows
 counted count high k a rows is log tall = is ∙ ap (λ h. h * 2 ^ a) log ∙ sym (pow-add 2 k a) ∙ sym tall
+
+pub returns-in_err-resize-clause-refused : goal.returns-in_err-resize-clause-refused
+returns-in_err-resize-clause-refused g c =
+    told_by_growth c.from_residual.result _ _ _ c.from_residual.ensures c.in_err-resize.ensures.room
 
 pub returns-clause-leaves : goal.returns-clause-leaves
 returns-clause-leaves g c =
