@@ -1,6 +1,6 @@
 //! The calls, over any field whose elements have words.
 
-ghost use Rattle.std.specs.Prelude.{◌≡◌, ◌≢◌, ℕ, ◌*◌, ◌/◌, ◌^◌, ◌<◌, ◌≤◌, ◌↔◌, ⊤, ⊥, List, length, IfOk};
+ghost use Rattle.std.specs.Prelude.{◌≡◌, ◌≢◌, ℕ, ◌*◌, ◌/◌, ◌^◌, ◌<◌, ◌≤◌, ◌↔◌, ⊤, List, length, IfOk};
 ghost use Rattle.std.specs.Prelude.{IsTrue, MatchBool, true};
 ghost use Rattle.std.specs.List.{AllZip};
 ghost use Rattle.p3_field.specs.Ring.{IsInvertible};

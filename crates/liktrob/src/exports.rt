@@ -3,7 +3,7 @@
 //! Each answers a status: 0 where it answered, else the number of the first condition that fails, or 5 where an
 //! allocation was refused; then what was lent has not changed.
 
-ghost use Rattle.std.specs.Prelude.{◌≡◌, ◌≢◌, ◌/◌, ◌^◌, ◌<◌, ◌≤◌, ⊤, ⊥, length};
+ghost use Rattle.std.specs.Prelude.{◌≡◌, ◌≢◌, ◌/◌, ◌^◌, ◌<◌, ◌≤◌, ⊤, length};
 ghost use Rattle.liktrob.specs.Answers.{IsAnswered, IsAnsweredByColumns, IsPoint, IsToldCodeword};
 ghost use Rattle.liktrob.specs.NamedFields.{baby_bear, baby_bear_elements, goldilocks, goldilocks_elements};
 ghost use Rattle.liktrob.specs.NamedFields.{koala_bear, koala_bear_elements};
