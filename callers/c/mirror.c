@@ -2,7 +2,8 @@
  *
  * Each function writes its arguments to the numbers of its answer, one after another and again from the first: the
  * function's number, engine, len, width, added bits, shift, out_len and threads, each cut to the word. A test of a
- * codeword answers 1 where the numbers that it was lent are these. Calls without threads write 0 for them.
+ * codeword answers 1 where the numbers that it was lent are these. Calls without threads write 0 for them. The step of
+ * calls on columns stands in the place of added bits, and a point is the sum of its arguments.
  */
 #include "liktrob_parallel.h"
 
@@ -62,6 +63,24 @@ FILL(uint64_t)
     MIRROR(liktrob_##FIELD, WORD, FIRST, NO_MORE, 0)                                                                   \
     MIRROR(liktrob_parallel_##FIELD, WORD, FIRST, AND_THREADS, threads)
 
+#define ON_COLUMNS(NAME, WORD, NUMBER)                                                                                 \
+    uint32_t NAME(uint32_t engine, WORD *words, size_t len, size_t width, WORD shift, WORD step) {                     \
+        const uint64_t given[ARGUMENTS] = {NUMBER, engine, len, width, step, shift, 0, 0};                             \
+        return fill_##WORD(words, len, given);                                                                         \
+    }
+
+#define COLUMNS(FIELD, WORD, FIRST)                                                                                    \
+    ON_COLUMNS(liktrob_##FIELD##_coset_dft_columns, WORD, FIRST + 6)                                                   \
+    ON_COLUMNS(liktrob_##FIELD##_coset_idft_columns, WORD, FIRST + 7)                                                  \
+                                                                                                                       \
+    uint32_t liktrob_##FIELD##_point(size_t bits, WORD shift, size_t index, WORD *answer) {                            \
+        *answer = (WORD)(bits + shift + index);                                                                        \
+        return LIKTROB_OK;                                                                                             \
+    }
+
+COLUMNS(baby_bear, uint32_t, 10)
+COLUMNS(koala_bear, uint32_t, 20)
+COLUMNS(goldilocks, uint64_t, 30)
 BOTH(baby_bear, uint32_t, 10)
 BOTH(koala_bear, uint32_t, 20)
 BOTH(goldilocks, uint64_t, 30)
