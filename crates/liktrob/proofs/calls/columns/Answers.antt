@@ -1,4 +1,5 @@
 use Rattle.std.proofs.Common.{◌≡◌, ◌≤◌, ◌<◌, ◌∙◌, true, ap, le_of_eq, le_refl, subst, sym, Some, None}
+use Rattle.std.specs.Prelude.{⊤}
 use Rattle.std.proofs.lemmas.Slice.Zip.{AllZip-long}
 use Rattle.p3_matrix.proofs.Rooms.{either_larger}
 use Rattle.p3_dft.proofs.Calls.Shapes.{input_fits}
@@ -71,7 +72,7 @@ returns-in_err-answer_columns_by-clause-told g c =
     let told =
     told_by_columns f g.met.F.Field.number_law c.args.shift c.args.step c.to_word.result s t last
     named_shift named_step c.to_word.ensures c.args.width c.saturating_sub.result last_is c.saturating_sub.ensures
-    _ _ _ c.args.words.now None c.undoes_shifts.result _ c.undoes_shifts.ensures shift_below step_below last_below
+    _ _ (λ _. ⊤) c.args.words.now None c.undoes_shifts.result _ c.undoes_shifts.ensures shift_below step_below last_below
     (λ fit. fit.fits.width) c.in_ok-engine.ensures.told in
     let read = c.in_ok-engine in
     let long = AllZip-long _ c.args.words.now read.mat.values read.ensures.entries in
@@ -95,7 +96,7 @@ returns-clause-told g c =
     subst (λ n. n < g.F.CanonicalField.ORDER_U64) (sym c.to_word.ensures) (g.met.F.CanonicalField.number_below_law last) in
     told_by_columns f g.met.F.Field.number_law c.args.shift c.args.step c.to_word.result s t last
     named_shift named_step c.to_word.ensures c.args.width c.saturating_sub.result last_is c.saturating_sub.ensures
-    _ _ _ c.args.words.now None c.undoes_shifts.result _ c.undoes_shifts.ensures shift_below step_below last_below
+    _ _ (λ _. ⊤) c.args.words.now None c.undoes_shifts.result _ c.undoes_shifts.ensures shift_below step_below last_below
     (λ fit. fit.fits.width) c.in_ok-engine.ensures.told
 
 pub returns-clause-size : goal.returns-clause-size
