@@ -65,7 +65,7 @@ module _ {A B : Type 0} (r : Ring A) (q : Ring B) (embed : A → B) (is : IsEmbe
 module _ {F E : Type 0} (f : FieldMembers F) (e : FieldMembers E) (v : SpaceMembers E F) (g : ℕ → F) (h : ℕ → E) (embedded : F → E) (x : E) (w : F)
     (is : IsExtensionField f e v g h embedded x w) (none : f.value f.zero ≡ f.ring.zero) (nothing : e.value e.zero ≡ e.ring.zero) where
   -- ---- embedded matrices
-  pub stored : (xs : List F) (n : ℕ) → e.value (get_or (map embedded xs) n e.zero) ≡ is.embed (f.value (get_or xs n f.zero))
+  stored : (xs : List F) (n : ℕ) → e.value (get_or (map embedded xs) n e.zero) ≡ is.embed (f.value (get_or xs n f.zero))
   stored [] n = nothing ∙ sym (ap is.embed none ∙ is.embeds.zero)
   stored (a ∷ xs) zero = is.base a
   stored (a ∷ xs) (suc n) = stored xs n
@@ -96,7 +96,7 @@ module _ {F E : Type 0} (f : FieldMembers F) (e : FieldMembers E) (v : SpaceMemb
   abbrev part : ℕ → RowMajor E → Matrix f.Element
   part t m = values_of f (coordinate v f.zero t m)
 
-  pub by_coordinates : (ys : List E) (n : ℕ)
+  by_coordinates : (ys : List E) (n : ℕ)
       → e.value (get_or ys n e.zero)
       ≡ poly e.ring v.DIMENSION
       (λ t. is.embed (f.value (get_or (map (λ y. get_or (v.coordinates y) t f.zero) ys) n f.zero))) (e.value x)

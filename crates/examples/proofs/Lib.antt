@@ -5,7 +5,6 @@ pub mod FoldedValues
 pub mod Limits
 pub mod MerklePaths
 pub mod MerkleTrees
-pub mod Openings
 pub mod OppositeEntries
 pub mod Parts
 pub mod Quadratics

@@ -20,7 +20,6 @@ pub mod linearity;
 pub mod low_degree;
 pub mod merkle_paths;
 pub mod merkle_root;
-pub mod opening;
 pub mod own_engine;
 pub mod product;
 pub mod promises;
