@@ -15,9 +15,11 @@
 #ifdef PARALLEL
 #include "liktrob_parallel.h"
 #define LIKTROB(FIELD, NAME, ...) liktrob_parallel_##FIELD##_##NAME(__VA_ARGS__, 3)
+enum { CALLS = 6 };
 #else
 #include "liktrob.h"
 #define LIKTROB(FIELD, NAME, ...) liktrob_##FIELD##_##NAME(__VA_ARGS__)
+enum { CALLS = 8 };
 #endif
 
 void *__real_malloc(size_t n);
@@ -55,7 +57,7 @@ void __wrap_free(void *block) {
     __real_free(block);
 }
 
-enum { HEIGHT = 64, WIDEST = 4, ADDED = 2, CALLS = 6, NEVER = -1 };
+enum { HEIGHT = 64, WIDEST = 4, ADDED = 2, NEVER = -1 };
 
 /* A matrix, and the output of an extension of it. */
 struct state {
@@ -70,8 +72,8 @@ struct state {
     uint32_t answer;
 };
 
-static const char *const names[CALLS] = {"coset_dft",        "coset_idft",  "coset_lde", "coset_lde_bit_reversed",
-                                         "coset_dft_padded", "is_codeword"};
+static const char *const names[] = {"coset_dft",        "coset_idft",  "coset_lde",         "coset_lde_bit_reversed",
+                                    "coset_dft_padded", "is_codeword", "coset_dft_columns", "coset_idft_columns"};
 
 #define CALL(FIELD, WORD)                                                                                              \
     static uint32_t call_##FIELD(int call, uint32_t engine, size_t width, struct state *state) {                       \
@@ -83,7 +85,9 @@ static const char *const names[CALLS] = {"coset_dft",        "coset_idft",  "cos
         case 2: return LIKTROB(FIELD, coset_lde, engine, words, len, width, ADDED, 31, out, out_len);                  \
         case 3: return LIKTROB(FIELD, coset_lde_bit_reversed, engine, words, len, width, ADDED, 31, out, out_len);     \
         case 4: return LIKTROB(FIELD, coset_dft_padded, engine, words, len, width, ADDED, 31, out, out_len);           \
-        default: return LIKTROB(FIELD, is_codeword, engine, words, len, width, ADDED, 31, &state->answer);             \
+        case 5: return LIKTROB(FIELD, is_codeword, engine, words, len, width, ADDED, 31, &state->answer);              \
+        case 6: return liktrob_##FIELD##_coset_dft_columns(engine, words, len, width, 31, 3);                          \
+        default: return liktrob_##FIELD##_coset_idft_columns(engine, words, len, width, 31, 3);                        \
         }                                                                                                              \
     }                                                                                                                  \
                                                                                                                        \
