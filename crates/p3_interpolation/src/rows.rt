@@ -152,7 +152,7 @@ fn add_scaled<F: Packable>(sums: &mut [F], row: &[F], factor: F, products: &mut 
     add_scaled_packs::<F, F>(rest_of_sums, rest_of_row, factor, products);
 }
 
-// The same of full packs.
+// `add_scaled` of full packs.
 #[inline(always)]
 fn add_scaled_packs<F: Packable, P: PackedField<Scalar = F>>(
     sums: &mut [F],
@@ -180,7 +180,7 @@ fn add_scaled_packs<F: Packable, P: PackedField<Scalar = F>>(
     }
 }
 
-// The same of one pack.
+// `add_scaled` of one pack.
 #[inline(always)]
 fn add_scaled_pack<F: Packable, P: PackedField<Scalar = F>>(
     sums: &mut [F],
