@@ -22,7 +22,14 @@
 
 /* A call takes less than a second. By sums the first shape would take twenty minutes, and the second more than a
  * minute. */
-enum { SECONDS = 20, ADDED = 1, HELD = 50, MOST_ROWS = 1 << 21 };
+enum { SECONDS = 20, ADDED = 1, MOST_ROWS = 1 << 21 };
+
+/* How often each call is made to see what it keeps. Threads that start and meet take their time on a busy machine. */
+#ifdef PARALLEL
+enum { HELD = 8 };
+#else
+enum { HELD = 50 };
+#endif
 
 /* What malloc keeps of small blocks counts as held. */
 enum { KEPT = 1024 };
