@@ -145,67 +145,9 @@ fn rows_are_made<F: CanonicalField>(rt: &impl Abort, alloc: Global) {
     are(rt, alloc, row_2.as_slice(), &[3, 3, 3]);
 }
 
-// In place of two elements, with a twiddle for each place of two rows, and out of place; and a multiple of a row.
-fn other_forms_make<F: CanonicalField>(rt: &impl Abort, alloc: Global) {
-    let mut products = Products::new();
-    let (mut x_1, mut x_2) = (F::from_u8(5), F::from_u8(2));
-    let dit = DitButterfly(F::from_u8(3));
-    apply_in_place::<F, DitButterfly<F>, F>(&dit, &mut x_1, &mut x_2, &mut products);
-    are(rt, alloc, [x_1, x_2].as_slice(), &[11, 2013265920]);
-
-    let by: Vec<F> = list(rt, alloc, &[3, 1, 0]);
-    let mut row_1: Vec<F> = list(rt, alloc, &[5, 5, 5]);
-    let mut row_2: Vec<F> = list(rt, alloc, &[2, 2, 2]);
-    assert!(rt; by.len() == row_1.len() && row_1.len() == row_2.len());
-    by_place(
-        by.as_slice(),
-        row_1.as_mut_slice(),
-        row_2.as_mut_slice(),
-        &mut products,
-    );
-    are(rt, alloc, row_1.as_slice(), &[11, 7, 5]);
-    are(rt, alloc, row_2.as_slice(), &[2013265920, 3, 5]);
-    scale(row_1.as_mut_slice(), F::TWO, &mut products);
-    are(rt, alloc, row_1.as_slice(), &[22, 14, 10]);
-}
-
-fn rows_are_made_out_of_place<F: CanonicalField>(rt: &impl Abort, alloc: Global) {
-    let src_1: Vec<F> = list(rt, alloc, &[5, 5]);
-    let src_2: Vec<F> = list(rt, alloc, &[2, 2]);
-    let mut dst_1: Vec<F> = list(rt, alloc, &[0, 0]);
-    let mut dst_2: Vec<F> = list(rt, alloc, &[0, 0]);
-    assert!(rt; src_1.len() == src_2.len());
-    assert!(rt; src_1.len() == dst_1.len() && src_1.len() == dst_2.len());
-    apply_to_rows_oop(
-        &DifButterfly(F::from_u8(3)),
-        src_1.as_slice(),
-        dst_1.as_mut_slice(),
-        src_2.as_slice(),
-        dst_2.as_mut_slice(),
-        &mut Products::new(),
-    );
-    are(rt, alloc, dst_1.as_slice(), &[7, 7]);
-    are(rt, alloc, dst_2.as_slice(), &[9, 9]);
-}
-
-fn parts_are_read<F: CanonicalField>(rt: &impl Abort, alloc: Global) {
-    let (three, two) = (F::from_u8(3), F::from_u8(2));
-    let (dit, dif, zeros) = twiddles(
-        DitButterfly(three),
-        DifButterfly(two),
-        DifButterflyZeros(F::ONE),
-    );
-    are(rt, alloc, [dit, dif, zeros].as_slice(), &[3, 2, 1]);
-    let (twiddle, scale, both) = scaled(three, two);
-    are(rt, alloc, [twiddle, scale, both].as_slice(), &[3, 2, 6]);
-}
-
 fn of_any_field<F: CanonicalField>(rt: &impl Abort, alloc: Global) {
     pairs::<F>(rt);
     rows_are_made::<F>(rt, alloc);
-    other_forms_make::<F>(rt, alloc);
-    rows_are_made_out_of_place::<F>(rt, alloc);
-    parts_are_read::<F>(rt, alloc);
 }
 
 #[test]

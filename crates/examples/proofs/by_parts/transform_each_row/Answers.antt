@@ -11,6 +11,10 @@ use Rattle.examples.proofs.Parts.{row_long, transform_as}
 use Rattle.examples.proofs.Refusals.{told_by_growth}
 use Rattle.examples.proofs.by_parts.transform_each_row.Goals as goal
 
+pub returns-in_err-parts-clause-refused : goal.returns-in_err-parts-clause-refused
+returns-in_err-parts-clause-refused g c =
+    told_by_growth c.from_residual.result _ _ _ c.from_residual.ensures c.in_err-parts.ensures.room
+
 pub returns-in_err-from_slice-clause-refused : goal.returns-in_err-from_slice-clause-refused
 returns-in_err-from_slice-clause-refused g c =
     let told = c.from_residual-in_err-from_slice in
