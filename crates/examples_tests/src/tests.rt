@@ -3,7 +3,6 @@
 // The numbers were worked out by another program. What is known of a concrete field is dear to prove, at each call that
 // names it, so tests are generic over the field, and `over` names fields. Extension fields have one of their own.
 
-mod by_parts;
 mod clients;
 mod extensions;
 mod folding;
@@ -35,11 +34,9 @@ enum Topic<'a> {
     TwoFoldings,
     HonestQueries(&'a [fri::Case]),
     ChangedQueries(&'a [fri::Case]),
-    Proofs(&'a [fri::Case]),
     OwnEngine,
     SmallProducts,
     LargeProducts,
-    Parts,
     WholeRows,
 }
 
@@ -55,11 +52,9 @@ impl<'a> Topic<'a> {
             Topic::TwoFoldings => folding::two_foldings_over::<F>(rt, alloc),
             Topic::HonestQueries(cases) => fri::honest_queries::<F>(rt, alloc, cases),
             Topic::ChangedQueries(cases) => fri::refused_queries::<F>(rt, alloc, cases),
-            Topic::Proofs(cases) => fri::proofs_and_changes::<F>(rt, alloc, cases),
             Topic::OwnEngine => own_engine::answers_agree::<F>(rt, alloc),
             Topic::SmallProducts => product::small_products_of::<F>(rt, alloc),
             Topic::LargeProducts => product::large_products::<F>(rt, alloc),
-            Topic::Parts => by_parts::each_number_of_parts::<F>(rt, alloc),
             Topic::WholeRows => whole_rows::each_client::<F>(rt, alloc),
         }
     }
