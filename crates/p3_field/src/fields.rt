@@ -59,9 +59,9 @@ pub trait Field: Valued
 
     ghost NEG_ONE: { Self };
 
-    /// An element with an inverse. In the fields of this crate its coset `GENERATOR * H` is apart from each
-    /// two-adic subgroup H, which no law says. That it generates the whole multiplicative group is not
-    /// claimed.
+    /// An element with an inverse. For the fields of this crate `p3_interpolation::CosetGenerator` has the law
+    /// that its coset `GENERATOR * H` meets no two-adic subgroup. That it generates the whole multiplicative
+    /// group is not claimed.
     const GENERATOR: Self;
 
     ghost GENERATOR: { Self };
