@@ -77,22 +77,48 @@ static size_t held(void) {
     return info.uordblks + info.hblkhd;
 }
 
+/* Columns on cosets of their own, there and back. There are none on threads. */
+#ifdef PARALLEL
+#define COLUMNS(FIELD)
+#define HELD_COLUMNS(FIELD)
+#else
+#define COLUMNS(FIELD)                                                                                                 \
+    memcpy(words, given, len * sizeof *words);                                                                         \
+    start();                                                                                                           \
+    status = LIKTROB(FIELD, coset_dft_columns, engine, words, len, width, 31, 3);                                      \
+    expect(status == 0 && has_values_by_##FIELD(given, height, width, words, height, 31, 3, 0),                        \
+           #FIELD " coset_dft_columns", engine, height, width);                                                        \
+    start();                                                                                                           \
+    status = LIKTROB(FIELD, coset_idft_columns, engine, words, len, width, 31, 3);                                     \
+    expect(status == 0 && memcmp(words, given, len * sizeof *words) == 0, #FIELD " coset_idft_columns", engine,        \
+           height, width);
+#define HELD_COLUMNS(FIELD)                                                                                            \
+    status |= LIKTROB(FIELD, coset_dft_columns, engine, words, len, 4, 31, 3);                                         \
+    status |= LIKTROB(FIELD, coset_idft_columns, engine, words, len, 4, 31, 3);
+#endif
+
 #define LARGE(FIELD, WORD, DOUBLE, MODULUS, GENERATOR)                                                                 \
-    /* Whether rows of values are those of the first and the last column's polynomial. */                              \
-    static int has_values_##FIELD(const WORD *coefficients, size_t height, size_t width, const WORD *values,           \
-                                  size_t out_height, WORD shift, int in_reverse) {                                     \
+    /* Whether rows of values are those of the first and the last column's polynomial, of which column j lies on the   \
+     * coset of shift * step^j. */                                                                                     \
+    static int has_values_by_##FIELD(const WORD *coefficients, size_t height, size_t width, const WORD *values,        \
+                                     size_t out_height, WORD shift, WORD step, int in_reverse) {                       \
         const size_t rows[] = {0, 1, out_height / 2 + 3};                                                              \
         uint64_t g = power(GENERATOR, (MODULUS - 1) / out_height, MODULUS);                                            \
         for (size_t at = 0; at < 3; at++) {                                                                            \
             const WORD *row = values + (in_reverse ? reversed(rows[at], out_height) : rows[at]) * width;               \
-            DOUBLE x = (DOUBLE)((product)shift * power(g, rows[at], MODULUS) % MODULUS);                               \
             for (size_t column = 0; column < width; column += width > 1 ? width - 1 : 1) {                             \
-                DOUBLE value = 0;                                                                                      \
+                uint64_t of_column = (uint64_t)((product)shift * power(step, column, MODULUS) % MODULUS);              \
+                DOUBLE value = 0, x = (DOUBLE)((product)of_column * power(g, rows[at], MODULUS) % MODULUS);            \
                 for (size_t i = height; i-- > 0;) value = (value * x + coefficients[i * width + column]) % MODULUS;    \
                 if (row[column] != (WORD)value) return 0;                                                              \
             }                                                                                                          \
         }                                                                                                              \
         return 1;                                                                                                      \
+    }                                                                                                                  \
+                                                                                                                       \
+    static int has_values_##FIELD(const WORD *coefficients, size_t height, size_t width, const WORD *values,           \
+                                  size_t out_height, WORD shift, int in_reverse) {                                     \
+        return has_values_by_##FIELD(coefficients, height, width, values, out_height, shift, 1, in_reverse);           \
     }                                                                                                                  \
                                                                                                                        \
     static void try_##FIELD(uint32_t engine, size_t height, size_t width, WORD *given, WORD *words, WORD *out) {       \
@@ -132,6 +158,7 @@ static size_t held(void) {
         status = LIKTROB(FIELD, coset_lde_bit_reversed, engine, words, len, width, ADDED, 31, out, out_len);           \
         expect(status == 0 && has_values_##FIELD(given, height, width, out, height << ADDED, 31, 1),                   \
                #FIELD " coset_lde_bit_reversed", engine, height, width);                                               \
+        COLUMNS(FIELD)                                                                                                 \
     }                                                                                                                  \
                                                                                                                        \
     /* Calls of each kind, over and over. */                                                                           \
@@ -150,6 +177,7 @@ static size_t held(void) {
             status |= LIKTROB(FIELD, coset_lde_bit_reversed, engine, words, len, 1, ADDED, 31, out, out_len);          \
             status |= LIKTROB(FIELD, coset_dft_padded, engine, words, len, 1, ADDED, 31, out, out_len);                \
             status |= LIKTROB(FIELD, is_codeword, engine, words, len, 1, ADDED, 31, &yes);                             \
+            HELD_COLUMNS(FIELD)                                                                                        \
         }                                                                                                              \
         size_t after = held();                                                                                         \
         if (after > before + KEPT) printf("%zu bytes more are held\n", after - before);                                \
@@ -172,6 +200,8 @@ int main(void) {
     void *given = malloc(MOST_ROWS * sizeof(uint64_t)), *words = malloc(MOST_ROWS * sizeof(uint64_t));
     void *out = malloc(MOST_ROWS * sizeof(uint64_t));
     if (given == NULL || words == NULL || out == NULL || signal(SIGPROF, is_slow) == SIG_ERR) return 2;
+    /* What was told stays where a call is too slow. */
+    if (setvbuf(stdout, NULL, _IOLBF, BUFSIZ) != 0) return 2;
     try_all_baby_bear(given, words, out);
     try_all_koala_bear(given, words, out);
     try_all_goldilocks(given, words, out);
