@@ -41,6 +41,10 @@ static void expect(const char *what, uint32_t expected, uint32_t status) {
                 EXTENSIONS(FIELD, " long output", 3, engine, 4, 2, 1, 1, end)                                          \
                 EXTENSIONS(FIELD, " shift before all", 2, engine, 4, end, end, MODULUS, end)                           \
                 EXTENSIONS(FIELD, " no words", 3, engine, 0, end, end, 1, 0)                                           \
+                COLUMNS(FIELD, " width", 3, engine, 4, end, 0, 0)                                                      \
+                COLUMNS(FIELD, " shift before all", 2, engine, 4, end, MODULUS, 0)                                     \
+                COLUMNS(FIELD, " step before all", 2, engine, 4, end, 0, MODULUS)                                      \
+                COLUMNS(FIELD, " no words", 3, engine, 0, end, 0, 0)                                                   \
             }                                                                                                          \
             expect(#FIELD " no words", 3, liktrob_##FIELD##_coset_dft(engine, words, 0, 1, 1));                        \
             expect(#FIELD " no words", 3, liktrob_##FIELD##_coset_idft(engine, words, 0, 0, 0));                       \
@@ -56,6 +60,12 @@ static void expect(const char *what, uint32_t expected, uint32_t status) {
             words[0] = 1;                                                                                              \
             EXTENSIONS(FIELD, " three rows", 3, engine, 3, 1, 1, 1, 6)                                                 \
             EXTENSIONS(FIELD, " short output", 3, engine, 4, 2, 1, 1, 7)                                               \
+            COLUMNS(FIELD, " three rows", 3, engine, 3, 1, 0, 0)                                                       \
+            COLUMNS(FIELD, " greatest shift", 2, engine, 4, 1, (WORD)-1, 0)                                            \
+            COLUMNS(FIELD, " greatest step", 2, engine, 4, 1, 0, (WORD)-1)                                             \
+            COLUMNS(FIELD, " shift and step below the modulus", 0, engine, 1, 1, MODULUS - 1, MODULUS - 1)             \
+            BACK(FIELD, " shift of 0", 4, engine, 4, 1, 0, 1)                                                          \
+            BACK(FIELD, " step of 0", 4, engine, 4, 2, 1, 0)                                                           \
         }                                                                                                              \
         for (int i = 0; i < ENGINES; i++) {                                                                            \
             uint32_t no = engines[i];                                                                                  \
@@ -63,10 +73,34 @@ static void expect(const char *what, uint32_t expected, uint32_t status) {
             expect(#FIELD " engine", 1, liktrob_##FIELD##_coset_idft(no, words, SIZE_MAX, 0, MODULUS));                \
             expect(#FIELD " engine", 1, liktrob_##FIELD##_is_codeword(no, words, SIZE_MAX, 0, 1, MODULUS, &yes));      \
             EXTENSIONS(FIELD, " engine", 1, no, SIZE_MAX, 0, SIZE_MAX, MODULUS, SIZE_MAX)                              \
+            COLUMNS(FIELD, " engine", 1, no, SIZE_MAX, 0, MODULUS, MODULUS)                                            \
         }                                                                                                              \
         for (int i = 0; i < 8; i++)                                                                                    \
             if (out[i] != 7 || words[i / 2] != (WORD)(i / 2 + 1) || yes != 7)                                          \
                 wrong++, puts(#FIELD ": a status with a changed buffer");                                              \
+    }                                                                                                                  \
+                                                                                                                       \
+    static void try_points_of_##FIELD(void) {                                                                          \
+        WORD point = 7;                                                                                                \
+        for (int i = 0; i < ENDS; i++) {                                                                               \
+            expect(#FIELD " bits", 3, liktrob_##FIELD##_point(ends[i], 1, ends[i], &point));                           \
+            expect(#FIELD " shift before bits", 2, liktrob_##FIELD##_point(ends[i], MODULUS, ends[i], &point));        \
+            expect(#FIELD " greatest shift", 2, liktrob_##FIELD##_point(0, (WORD)-1, ends[i], &point));                \
+        }                                                                                                              \
+        if (point != 7) wrong++, puts(#FIELD ": a status with a changed point");                                       \
+        for (int i = 0; i < ENDS; i++) {                                                                               \
+            /* -1 generates the subgroup of order 2, and an even number of steps leads back. */                        \
+            int is_odd = ends[i] % 2 == 1;                                                                             \
+            expect(#FIELD " index", 0, liktrob_##FIELD##_point(0, MODULUS - 1, ends[i], &point));                      \
+            if (point != MODULUS - 1) wrong++, puts(#FIELD ": another point of one");                                  \
+            expect(#FIELD " index", 0, liktrob_##FIELD##_point(1, 5, ends[i], &point));                                \
+            if (point != (is_odd ? MODULUS - 5 : 5)) wrong++, puts(#FIELD ": another point of two");                   \
+        }                                                                                                              \
+        /* Half of the subgroup's order, and 2^63, which is a multiple of it. */                                       \
+        expect(#FIELD " index", 0, liktrob_##FIELD##_point(24, 5, 1u << 23, &point));                                  \
+        if (point != MODULUS - 5) wrong++, puts(#FIELD ": another point of many");                                     \
+        expect(#FIELD " index", 0, liktrob_##FIELD##_point(24, 5, SIZE_MAX / 2 + 1, &point));                          \
+        if (point != 5) wrong++, puts(#FIELD ": another point of many");                                               \
     }
 
 #define EXTENSIONS(FIELD, WHAT, STATUS, ENGINE, LEN, WIDTH, BITS, SHIFT, OUT_LEN)                                      \
@@ -77,14 +111,26 @@ static void expect(const char *what, uint32_t expected, uint32_t status) {
     expect(#FIELD WHAT " of padded dft", STATUS,                                                                       \
            liktrob_##FIELD##_coset_dft_padded(ENGINE, words, LEN, WIDTH, BITS, SHIFT, out, OUT_LEN));
 
+#define COLUMNS(FIELD, WHAT, STATUS, ENGINE, LEN, WIDTH, SHIFT, STEP)                                                  \
+    expect(#FIELD WHAT " of columns", STATUS,                                                                          \
+           liktrob_##FIELD##_coset_dft_columns(ENGINE, words, LEN, WIDTH, SHIFT, STEP));                               \
+    BACK(FIELD, WHAT, STATUS, ENGINE, LEN, WIDTH, SHIFT, STEP)
+
+#define BACK(FIELD, WHAT, STATUS, ENGINE, LEN, WIDTH, SHIFT, STEP)                                                     \
+    expect(#FIELD WHAT " of columns back", STATUS,                                                                     \
+           liktrob_##FIELD##_coset_idft_columns(ENGINE, words, LEN, WIDTH, SHIFT, STEP));
+
 TRY(baby_bear, uint32_t, LIKTROB_BABY_BEAR_MODULUS)
 TRY(koala_bear, uint32_t, LIKTROB_KOALA_BEAR_MODULUS)
 TRY(goldilocks, uint64_t, LIKTROB_GOLDILOCKS_MODULUS)
 
 int main(void) {
     try_baby_bear();
+    try_points_of_baby_bear();
     try_koala_bear();
+    try_points_of_koala_bear();
     try_goldilocks();
+    try_points_of_goldilocks();
     printf("%d calls, %d wrong\n", tried, wrong);
     return wrong != 0 || tried == 0;
 }

@@ -9,7 +9,7 @@
 
 #include "liktrob.h"
 
-enum { STACK = 1 << 16, PAGE = 1 << 12, ADDED = 1, CALLS = 6, UNUSED = 0xa5 };
+enum { STACK = 1 << 16, PAGE = 1 << 12, ADDED = 1, CALLS = 9, UNUSED = 0xa5 };
 
 struct shape {
     size_t height, width;
@@ -39,7 +39,10 @@ struct task {
         case 2: return liktrob_##FIELD##_coset_lde(t->engine, words, len, w, ADDED, 31, out, out_len);                 \
         case 3: return liktrob_##FIELD##_coset_lde_bit_reversed(t->engine, words, len, w, ADDED, 31, out, out_len);    \
         case 4: return liktrob_##FIELD##_coset_dft_padded(t->engine, words, len, w, ADDED, 31, out, out_len);          \
-        default: return liktrob_##FIELD##_is_codeword(t->engine, words, len, w, 0, 31, &t->answer);                    \
+        case 5: return liktrob_##FIELD##_is_codeword(t->engine, words, len, w, 0, 31, &t->answer);                     \
+        case 6: return liktrob_##FIELD##_coset_dft_columns(t->engine, words, len, w, 31, 3);                           \
+        case 7: return liktrob_##FIELD##_coset_idft_columns(t->engine, words, len, w, 31, 3);                          \
+        default: return liktrob_##FIELD##_point(24, 31, len, out);                                                     \
         }                                                                                                              \
     }
 

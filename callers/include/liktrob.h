@@ -9,7 +9,7 @@
  *
  * Each function answers a status. Of several faults the first in the list of statuses is answered. Where the status is
  * not LIKTROB_OK, no number that was lent has changed. No function has a condition on the numbers, len, width,
- * added_bits, shift, out_len and engine that it is given: whatever they are, the answer is a status.
+ * added_bits, shift, step, out_len, bits, index and engine that it is given: whatever they are, the answer is a status.
  *
  * What the caller owes:
  *   - A pointer is not null and is aligned for its type. This holds where len is 0, too: any aligned address serves.

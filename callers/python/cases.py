@@ -1,5 +1,6 @@
 """Answers the cases that tools/check_callers makes. A line has FIELD ENGINE CALL THREADS WIDTH ADDED SHIFT OUT_LEN and
-then the numbers; its answer is a status and, where that is 0, numbers."""
+then the numbers; its answer is a status and, where that is 0, numbers. One of columns on cosets of their own, or of a
+point, has FIELD ENGINE CALL BITS WIDTH SHIFT STEP INDEX and then the numbers."""
 
 import array
 import sys
@@ -33,15 +34,23 @@ def answer_of(field, engine, call, threads, width, added_bits, shift, out_len, w
     return out
 
 
+def answer_of_columns(field, engine, call, bits, width, shift, step, index, words):
+    """The numbers that the call of columns answers, or the point."""
+    if call == "point":
+        return [field.point(bits, shift, index)]
+    getattr(field, call)(words, shift, step, width=width, engine=engine)
+    return words
+
+
 def main():
     for line in sys.stdin:
-        field, engine, call, threads, width, added_bits, shift, out_len, *numbers = line.split()
+        field, engine, call, *given = line.split()
         field = FIELDS[field]
-        words = field.array(map(int, numbers))
+        given, words = map(int, given[:5]), field.array(map(int, given[5:]))
         before = words[:]
-        given = int(threads), int(width), int(added_bits), int(shift), int(out_len)
+        of_columns = call == "point" or call.endswith("_columns")
         try:
-            print(0, *answer_of(field, int(engine), call, *given, words))
+            print(0, *(answer_of_columns if of_columns else answer_of)(field, int(engine), call, *given, words))
         except liktrob.LiktrobError as error:
             assert words == before, "an error with a changed buffer"
             print(int(error.status))

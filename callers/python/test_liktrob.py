@@ -231,6 +231,104 @@ class Faults(unittest.TestCase):
             self.assertEqual(caught.exception.status, status)
 
 
+class Columns(unittest.TestCase):
+    """Columns on cosets of their own, and points. The numbers are worked out by hand: 1 + 2x is 7 and -5 at 3 and -3,
+    31 and -29 at 15 and -15."""
+
+    COLUMNS = ["coset_dft_columns", "coset_idft_columns"]
+
+    def test_each_column_has_a_coset_of_its_own(self):
+        for field in FIELDS:
+            values = [7, 31, field.modulus - 5, field.modulus - 29]
+            for engine in Engine:
+                words = field.array([1, 1, 2, 2])
+                self.assertIsNone(field.coset_dft_columns(words, 3, 5, width=2, engine=engine))
+                self.assertEqual(list(words), values)
+                self.assertIsNone(field.coset_idft_columns(words, 3, 5, width=2, engine=engine))
+                self.assertEqual(list(words), [1, 1, 2, 2])
+
+    def test_with_the_step_zero_all_columns_but_the_first_are_at_zero(self):
+        words = baby_bear.array([1, 1, 2, 2])
+        baby_bear.coset_dft_columns(words, 3, 0, width=2)
+        self.assertEqual(list(words), [7, 1, 2013265916, 1])
+        with self.assertRaises(LiktrobError) as caught:
+            baby_bear.coset_idft_columns(words, 3, 0, width=2)
+        self.assertEqual(caught.exception.status, Status.SHIFT)
+        column = baby_bear.array([7, 2013265916])
+        baby_bear.coset_idft_columns(column, 3, 0)
+        self.assertEqual(list(column), [1, 2])
+
+    def test_the_width_of_columns_is_the_last_dimension(self):
+        words = array.array("I", [1, 1, 2, 2])
+        baby_bear.coset_dft_columns(memoryview(words).cast("B").cast("I", shape=[2, 2]), 3, 5)
+        self.assertEqual(list(words), [7, 31, 2013265916, 2013265892])
+
+    def test_faults_of_columns_have_their_statuses_and_change_nothing(self):
+        for field in FIELDS:
+            above, last = field.modulus, 2 ** (8 * field.array().itemsize)
+            for call in self.COLUMNS:
+                for status, numbers, shift, step, others in [
+                    (Status.ENGINE, [1, above], above, above, {"engine": 6, "width": 0}),
+                    (Status.ENGINE, [1, 2], 3, 5, {"engine": -1}),
+                    (Status.NUMBER, [1, above], 3, 5, {"width": 0}),
+                    (Status.NUMBER, [1, 2], above, 5, {"width": 3}),
+                    (Status.NUMBER, [1, 2], 3, above, {"width": 3}),
+                    (Status.NUMBER, [1, 2], last + 3, 5, {}),
+                    (Status.NUMBER, [1, 2], 3, last + 5, {}),
+                    (Status.NUMBER, [1, 2], -3, 5, {}),
+                    (Status.NUMBER, [1, 2], 3, -5, {}),
+                    (Status.SHAPE, [1, 2], 0, 0, {"width": 0}),
+                    (Status.SHAPE, [1, 2], 0, 5, {"width": 2**64 + 1}),
+                    (Status.SHAPE, [1, 2, 3], 0, 5, {}),
+                    (Status.SHAPE, [], 0, 5, {}),
+                ]:
+                    words = field.array(numbers)
+                    with self.assertRaises(LiktrobError, msg=f"{call} {status}") as caught:
+                        getattr(field, call)(words, shift, step, **others)
+                    self.assertEqual((caught.exception.status, list(words)), (status, numbers))
+                    words.append(1)
+
+    def test_kinds_of_columns_and_numbers(self):
+        for call in self.COLUMNS:
+            read_only = memoryview(array.array("I", [1, 2])).toreadonly()
+            for words in [[1, 2], (1, 2), None, array.array("i", [1, 2]), read_only]:
+                with self.assertRaises(TypeError, msg=repr(words)):
+                    getattr(baby_bear, call)(words, 3, 5)
+            for shift, step in [(3.0, 5), (3, "5")]:
+                with self.assertRaises(TypeError):
+                    getattr(baby_bear, call)(baby_bear.array([1, 2]), shift, step)
+
+    def test_points_are_those_of_rows(self):
+        for field in FIELDS:
+            greatest = field.modulus - 1
+            self.assertEqual([field.point(1, 7, i) for i in range(3)], [7, field.modulus - 7, 7])
+            self.assertEqual([field.point(0, greatest, 5), field.point(3, 0, 5)], [greatest, 0])
+            # The indices 2^64 and -2^64 are those of row 0.
+            self.assertEqual([field.point(1, 7, i) for i in (-1, 2**64 - 1, 2**64 + 1)], [field.modulus - 7] * 3)
+            self.assertEqual([field.point(5, 7, i) for i in (2**64, -(2**64), 32)], [7] * 3)
+        # Plonky3's generators.
+        self.assertEqual(baby_bear.point(27, 1, 1), 0x1A427A41)
+        self.assertEqual(koala_bear.point(24, 1, 1), 0x6AC49F88)
+        self.assertEqual(goldilocks.point(32, 1, 1), 1753635133440165772)
+
+    def test_faults_of_points(self):
+        for field in FIELDS:
+            for bits, shift, status in [
+                (field.two_adicity + 1, 1, Status.SHAPE),
+                (2**64, 1, Status.SHAPE),
+                (-1, 1, Status.SHAPE),
+                (2**64 + 1, field.modulus, Status.NUMBER),
+                (1, 2**64 + 1, Status.NUMBER),
+                (1, -1, Status.NUMBER),
+            ]:
+                with self.assertRaises(LiktrobError) as caught:
+                    field.point(bits, shift, 0)
+                self.assertEqual(caught.exception.status, status)
+        for given in [(1.0, 7, 1), (1, "7", 1), (1, 7, 1.0)]:
+            with self.assertRaises(TypeError):
+                baby_bear.point(*given)
+
+
 class Pickled(unittest.TestCase):
     def test_errors_and_fields_are_pickled(self):
         for status in [Status.ENGINE, Status.NUMBER, Status.SHAPE, Status.SHIFT]:

@@ -2,7 +2,8 @@
 """Proved Fourier transforms over the finite fields BabyBear, KoalaBear and Goldilocks.
 
 A matrix is a buffer of numbers below the modulus, row after row. Each column is one polynomial: its coefficients, or
-its values. Row i of values belongs to the point shift * g^i, where g is two_adic_generator of the height's logarithm.
+its values. Row i of values belongs to the point shift * g^i, where g is two_adic_generator of the height's logarithm;
+it is point(bits, shift, i).
 
     >>> import liktrob
     >>> words = liktrob.baby_bear.array([5, 2, 0, 4, 3, 0])
@@ -174,6 +175,12 @@ class Field:
             several.argtypes, several.restype = [*one.argtypes, size], ctypes.c_uint32
             return lambda threads, *given: one(*given) if threads == 1 else several(*given, threads)
 
+        def only_one(call: str, *types: Any) -> Any:
+            """The call on one thread, which has no namesake with threads."""
+            one = getattr(library, f"liktrob_{name}_{call}")
+            one.argtypes, one.restype = types, ctypes.c_uint32
+            return one
+
         extension = size, word, pointer, size
         self._coset_dft = function("coset_dft", word)
         self._coset_idft = function("coset_idft", word)
@@ -181,6 +188,10 @@ class Field:
         self._coset_lde_bit_reversed = function("coset_lde_bit_reversed", *extension)
         self._coset_dft_padded = function("coset_dft_padded", *extension)
         self._is_codeword = function("is_codeword", size, word, pointer)
+        columns = engine, pointer, size, size, word, word
+        self._coset_dft_columns = only_one("coset_dft_columns", *columns)
+        self._coset_idft_columns = only_one("coset_idft_columns", *columns)
+        self._point = only_one("point", size, word, size, pointer)
 
     def __repr__(self) -> str:
         return f"liktrob.{self.name}"
@@ -198,6 +209,20 @@ class Field:
         if not 0 <= bits <= self.two_adicity:
             raise LiktrobError(Status.SHAPE)
         return pow(self.generator, (self.modulus - 1) >> bits, self.modulus)
+
+    def point(self, bits: SupportsIndex, shift: SupportsIndex, index: SupportsIndex) -> int:
+        """The point shift * g^index, where g is two_adic_generator(bits): that of row index of values on the coset of
+        shift. The index is any whole number: after 2^bits rows the points repeat.
+
+            >>> import liktrob
+            >>> liktrob.goldilocks.point(1, 7, 1) == liktrob.goldilocks.modulus - 7
+            True
+        """
+        answer = self._word()
+        # The subgroup's order divides the number of indices that a word holds.
+        row = operator.index(index) % 2**64
+        _answered(self._point(self._bits(bits), self._number(shift), row, ctypes.byref(answer)))
+        return int(answer.value)
 
     def dft(
         self,
@@ -314,11 +339,48 @@ class Field:
         _answered(self._tested(self._read(words), added_bits, shift, width, engine, threads, answer))
         return bool(answer.value)
 
+    def coset_dft_columns(
+        self,
+        words: Buffer,
+        shift: SupportsIndex,
+        step: SupportsIndex,
+        width: Optional[SupportsIndex] = None,
+        engine: SupportsIndex = Engine.DEFAULT,
+    ) -> None:
+        """In place, coset_dft of each column on a coset of its own: column j on the coset of shift * step^j. It works
+        on the calling thread. With point it is a part of a transform by parts.
+
+        The polynomial 1 + 2x on the coset of 3, and once more on that of 15:
+
+            >>> import liktrob
+            >>> words = liktrob.baby_bear.array([1, 1, 2, 2])
+            >>> liktrob.baby_bear.coset_dft_columns(words, 3, 5, width=2)
+            >>> list(words)
+            [7, 31, 2013265916, 2013265892]
+        """
+        _answered(self._by_columns(self._coset_dft_columns, words, shift, step, width, engine))
+
+    def coset_idft_columns(
+        self,
+        words: Buffer,
+        shift: SupportsIndex,
+        step: SupportsIndex,
+        width: Optional[SupportsIndex] = None,
+        engine: SupportsIndex = Engine.DEFAULT,
+    ) -> None:
+        """In place, coset_idft of each column on a coset of its own: column j on the coset of shift * step^j, which is
+        0 for no column. It works on the calling thread."""
+        _answered(self._by_columns(self._coset_idft_columns, words, shift, step, width, engine))
+
     # Each function below that makes a call answers its status, so that no exception keeps a buffer from being resized.
 
     def _in_place(self, function, words, shift, width, engine, threads):
         lent, count, width = self._lent(words, width, is_written=True)
         return function(_threads(threads), self._engine(engine), lent, count, width, self._number(shift))
+
+    def _by_columns(self, function, words, shift, step, width, engine):
+        lent, count, width = self._lent(words, width, is_written=True)
+        return function(self._engine(engine), lent, count, width, self._number(shift), self._number(step))
 
     def _tested(self, words, added_bits, shift, width, engine, threads, answer):
         lent, count, width = self._lent(words, width)
