@@ -31,7 +31,7 @@ enum { HELD = 8 };
 enum { HELD = 50 };
 #endif
 
-/* What malloc keeps of small blocks counts as held. */
+/* What malloc keeps of small blocks counts as held. On threads it is to keep none for a thread, by GLIBC_TUNABLES. */
 enum { KEPT = 1024 };
 
 __extension__ typedef unsigned __int128 product;

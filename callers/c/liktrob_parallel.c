@@ -14,6 +14,9 @@
  * the wide rows, and a transform of each wide row of the larger matrix. The columns of step 1 and the wide rows of step
  * 2 are independent of each other, so threads take them in any order.
  *
+ * Where w = 1, wide rows one after another are turned to columns, whose cosets are in a progression: step 2 is then
+ * coset_dft_columns with the step g, and its rows are pieces of the answer.
+ *
  * All this happens in memory of its own. The caller's words change in a last step, which cannot fail.
  */
 #define _POSIX_C_SOURCE 200809L
@@ -34,22 +37,27 @@
 #endif
 enum { MOST_THREADS = 1024 };
 
-/* A task works on about so many bytes, which the cache of a processor holds, and copies whole lines of the cache. */
-enum { TASK = 1 << 18, LINE = 64 };
+/* A task works on about so many bytes, which the cache of a processor holds, and copies whole lines of the cache. Wide
+ * rows that are turned to columns have lines of up to LANES bytes, so that tables serve many of them. */
+enum { TASK = 1 << 18, LINE = 64, LANES = 4 * LINE };
 
 typedef uint32_t transform_of(uint32_t engine, void *words, size_t len, size_t width, uint64_t shift);
+typedef uint32_t columns_of(uint32_t engine, void *words, size_t len, size_t width, uint64_t shift, uint64_t step);
 typedef uint32_t extension_of(uint32_t engine, const void *words, size_t len, size_t width, size_t added_bits,
                               uint64_t shift, void *out, size_t out_len);
 typedef uint32_t test_of(uint32_t engine, const void *words, size_t len, size_t width, size_t added_bits,
                          uint64_t shift, uint32_t *answer);
+typedef uint64_t point_of(size_t bits, uint64_t shift, size_t index);
 
 /* A field, and the library's calls over it. */
 struct field {
-    uint64_t modulus, generator;
+    uint64_t modulus;
     size_t two_adicity, word; /* a word in bytes */
     transform_of *dft, *idft;
+    columns_of *dft_columns, *idft_columns;
     extension_of *lde, *lde_bit_reversed, *padded;
     test_of *is_codeword;
+    point_of *point;
 };
 
 /* The caller's matrix and the answer that is asked for. */
@@ -71,6 +79,7 @@ struct parts {
     size_t row, wide;   /* bytes in a row, and in a wide row */
     size_t chunk;       /* words of a wide row for a task on columns */
     size_t group;       /* wide rows of a task on rows */
+    int is_column;      /* whether a row is one number, so that a group is turned to columns */
 };
 
 struct job;
@@ -92,9 +101,9 @@ struct job {
     char *first, *second; /* the matrix as wide rows, before and after an extension */
     char *scratch;
     size_t scratch_each;
-    transform_of *by_rows, *by_columns; /* what becomes of wide rows, and of columns in place */
-    extension_of *by_extension;         /* what becomes of columns where the matrix is extended */
-    int in_reverse;                     /* whether rows are to be in bit-reversed order */
+    transform_of *by_columns;   /* what becomes of columns in place */
+    extension_of *by_extension; /* what becomes of columns where the matrix is extended */
+    int in_reverse;             /* whether rows are to be in bit-reversed order */
     atomic_int all_codewords;
     atomic_size_t workers;
     atomic_uint status;
@@ -116,12 +125,6 @@ static uint64_t power(uint64_t a, uint64_t exponent, uint64_t modulus) {
     return result;
 }
 
-/* shift * g^index, where g generates the subgroup of order 2^bits. */
-static uint64_t point(const struct field *field, size_t bits, uint64_t shift, uint64_t index) {
-    uint64_t g = power(field->generator, (field->modulus - 1) >> bits, field->modulus);
-    return times(shift, power(g, index, field->modulus), field->modulus);
-}
-
 static size_t log_of(size_t power_of_two) {
     size_t bits = 0;
     while (power_of_two >> bits > 1) bits++;
@@ -132,6 +135,13 @@ static size_t reversed(size_t index, size_t bits) {
     size_t result = 0;
     for (; bits > 0; bits--, index >>= 1) result = result << 1 | (index & 1);
     return result;
+}
+
+/* The number that has the digits of the next one in reverse, from that of one. */
+static size_t next_reversed(size_t reversed, size_t bits) {
+    size_t bit = (size_t)1 << bits >> 1;
+    for (; reversed & bit; bit >>= 1) reversed ^= bit;
+    return reversed | bit;
 }
 
 static size_t min(size_t a, size_t b) { return a < b ? a : b; }
@@ -153,6 +163,41 @@ static void copy_runs(char *to, size_t to_step, const char *from, size_t from_st
     default:
         for (size_t i = 0; i < count; i++) memcpy(to + i * to_step, from + i * from_step, bytes);
     }
+}
+
+/* Copies 2^bits runs, which lie so many bytes apart, to their places in bit-reversed order. */
+static void copy_in_reverse(char *to, const char *from, size_t from_step, size_t bits, size_t bytes) {
+    size_t place = 0;
+    switch (bytes) {
+    case 4:
+        for (size_t i = 0; i >> bits == 0; i++, place = next_reversed(place, bits))
+            memcpy(to + place * 4, from + i * from_step, 4);
+        break;
+    case 8:
+        for (size_t i = 0; i >> bits == 0; i++, place = next_reversed(place, bits))
+            memcpy(to + place * 8, from + i * from_step, 8);
+        break;
+    default:
+        for (size_t i = 0; i >> bits == 0; i++, place = next_reversed(place, bits))
+            memcpy(to + place * bytes, from + i * from_step, bytes);
+    }
+}
+
+/* Turns a matrix of so many rows and columns, in blocks that the cache holds. */
+#define TURN(WORD)                                                                                                     \
+    static void turn_##WORD(WORD *to, const WORD *from, size_t rows, size_t columns) {                                 \
+        for (size_t first = 0; first < columns; first += LINE / 4)                                                     \
+            for (size_t i = 0; i < rows; i++)                                                                          \
+                for (size_t j = first; j < min(first + LINE / 4, columns); j++)                                        \
+                    to[j * rows + i] = from[i * columns + j];                                                          \
+    }
+
+TURN(uint32_t)
+TURN(uint64_t)
+
+static void turn(void *to, const void *from, size_t rows, size_t columns, size_t word) {
+    if (word == sizeof(uint32_t)) turn_uint32_t(to, from, rows, columns);
+    else turn_uint64_t(to, from, rows, columns);
 }
 
 /* The phases. */
@@ -209,58 +254,86 @@ static uint32_t columns_tested(struct job *job, size_t index, char *scratch) {
     return status;
 }
 
-/* Each wide row of a group of a matrix through the library, by itself, on the coset of its own point. */
-static uint32_t rows_by(struct job *job, transform_of *function, char *wide_rows, size_t log_parts, uint64_t shift,
+/* Each wide row of a group through the library, by itself, on the coset of its own point. */
+static uint32_t rows_by(struct job *job, transform_of *function, char *rows, size_t log_parts, uint64_t shift,
                         size_t index) {
     const struct parts *parts = &job->parts;
     const struct field *field = job->call->field;
     size_t bits = log_parts + parts->log_height - parts->log_parts, first = index * parts->group;
-    uint64_t g = point(field, bits, 1, 1), at = point(field, bits, shift, first);
-    for (size_t i = first; i < first + parts->group; i++, at = times(at, g, field->modulus)) {
-        uint32_t status = function(job->call->engine, wide_rows + i * parts->wide, parts->wide / field->word,
-                                   job->call->width, at);
+    for (size_t i = 0; i < parts->group; i++) {
+        uint32_t status = function(job->call->engine, rows + i * parts->wide, parts->wide / field->word,
+                                   job->call->width, field->point(bits, shift, first + i));
         if (status != LIKTROB_OK) return status;
     }
     return LIKTROB_OK;
+}
+
+/* The wide rows of a group as columns beside each other through the library, each on the coset of its own point. */
+static uint32_t rows_by_columns(struct job *job, columns_of *function, char *columns, size_t log_parts, uint64_t shift,
+                                size_t index) {
+    const struct parts *parts = &job->parts;
+    const struct field *field = job->call->field;
+    size_t bits = log_parts + parts->log_height - parts->log_parts;
+    return function(job->call->engine, columns, parts->group * parts->part_height, parts->group,
+                    field->point(bits, shift, index * parts->group), field->point(bits, 1, 1));
 }
 
 /* Wide rows are made of the caller's values, whose wide row i is the rows i + R * j, and inverted. */
 static uint32_t rows_inverted(struct job *job, size_t index, char *scratch) {
     const struct parts *parts = &job->parts;
     const struct call *call = job->call;
-    const char *words = call->words;
+    const struct field *field = call->field;
     size_t rows = (size_t)1 << parts->log_parts, first = index * parts->group;
-    (void)scratch;
-    for (size_t j = 0; j < parts->part_height; j++)
-        copy_runs(job->first + first * parts->wide + j * parts->row, parts->wide,
-                  words + (first + j * rows) * parts->row, parts->row, parts->group, parts->row);
+    const char *words = (const char *)call->words + first * parts->row;
+    char *to = job->first + first * parts->wide;
     /* An extension is of values on the subgroup itself. */
     uint64_t shift = job->by_extension != NULL ? 1 : call->shift;
-    return rows_by(job, call->field->idft, job->first, parts->log_parts, shift, index);
+    if (parts->is_column) {
+        size_t line = parts->group * parts->row;
+        copy_runs(scratch, line, words, rows * parts->row, parts->part_height, line);
+        uint32_t status = rows_by_columns(job, field->idft_columns, scratch, parts->log_parts, shift, index);
+        if (status == LIKTROB_OK) turn(to, scratch, parts->part_height, parts->group, field->word);
+        return status;
+    }
+    for (size_t j = 0; j < parts->part_height; j++)
+        copy_runs(to + j * parts->row, parts->wide, words + j * rows * parts->row, parts->row, parts->group,
+                  parts->row);
+    return rows_by(job, field->idft, to, parts->log_parts, shift, index);
 }
 
-/* Wide rows are transformed to values. */
+/* Wide rows are transformed to values. Where they are columns then, row j of a group is a piece of the answer. */
 static uint32_t rows_transformed(struct job *job, size_t index, char *scratch) {
-    (void)scratch;
-    return rows_by(job, job->by_rows, job->second, job->parts.log_out_parts, job->call->shift, index);
+    const struct parts *parts = &job->parts;
+    const struct field *field = job->call->field;
+    size_t log_parts = parts->log_out_parts;
+    uint64_t shift = job->call->shift;
+    char *rows = job->second + index * parts->group * parts->wide;
+    if (!parts->is_column) return rows_by(job, field->dft, rows, log_parts, shift, index);
+    turn(scratch, rows, parts->group, parts->part_height, field->word);
+    uint32_t status = rows_by_columns(job, field->dft_columns, scratch, log_parts, shift, index);
+    if (status == LIKTROB_OK) memcpy(rows, scratch, parts->group * parts->wide);
+    return status;
 }
 
-/* Values in wide rows go to their places in the answer. */
+/* Values of a group go to their places in the answer. */
 static uint32_t rows_placed(struct job *job, size_t index, char *scratch) {
     const struct parts *parts = &job->parts;
     size_t rows = (size_t)1 << parts->log_out_parts, first = index * parts->group;
     size_t log_part_height = parts->log_height - parts->log_parts;
+    const char *values = job->second + first * parts->wide;
+    /* From one wide row of the group to the next, and from one row of it to the next. */
+    size_t next_part = parts->is_column ? parts->row : parts->wide;
+    size_t next_row = parts->is_column ? parts->group * parts->row : parts->row;
     char *out = job->call->out;
     (void)scratch;
-    for (size_t i = first; job->in_reverse && i < first + parts->group; i++) {
-        char *place = out + reversed(i, parts->log_out_parts) * parts->wide;
-        for (size_t j = 0; j < parts->part_height; j++)
-            memcpy(place + reversed(j, log_part_height) * parts->row, job->second + i * parts->wide + j * parts->row,
-                   parts->row);
-    }
-    for (size_t j = 0; !job->in_reverse && j < parts->part_height; j++)
-        copy_runs(out + (first + j * rows) * parts->row, parts->row, job->second + first * parts->wide + j * parts->row,
-                  parts->wide, parts->group, parts->row);
+    for (size_t i = 0; job->in_reverse && i < parts->group; i++)
+        copy_in_reverse(out + reversed(first + i, parts->log_out_parts) * parts->wide, values + i * next_part, next_row,
+                        log_part_height, parts->row);
+    if (!job->in_reverse && parts->is_column)
+        copy_runs(out + first * parts->row, rows * parts->row, values, next_row, parts->part_height, next_row);
+    for (size_t j = 0; !job->in_reverse && !parts->is_column && j < parts->part_height; j++)
+        copy_runs(out + (first + j * rows) * parts->row, parts->row, values + j * parts->row, parts->wide,
+                  parts->group, parts->row);
     return LIKTROB_OK;
 }
 
@@ -358,17 +431,24 @@ static struct parts parts_of(const struct call *call, size_t threads, size_t lea
     struct parts parts;
     size_t word = call->field->word;
     parts.row = call->width * word;
+    parts.is_column = call->width == 1;
+    /* A line of a group at most, how many bytes the group may have, and how many groups there are at least. */
+    size_t line = parts.is_column ? LANES : LINE, task = parts.is_column ? 2 * TASK : TASK;
+    size_t groups = parts.is_column ? 4 * threads : threads;
     parts.log_height = log_of(call->len / call->width);
     parts.log_parts = max(least_log_parts, 1);
     while (parts.log_parts + 1 < parts.log_height &&
-           ((size_t)1 << parts.log_parts < 4 * threads ||
-            max(parts.row, LINE) > (size_t)TASK >> (parts.log_height - parts.log_parts)))
+           ((size_t)1 << parts.log_parts < 4 * threads || min(parts.row, LINE) << parts.log_parts < groups * LINE ||
+            max(parts.row, line) > task >> (parts.log_height - parts.log_parts)))
         parts.log_parts++;
     parts.log_out_parts = parts.log_parts + call->added_bits;
     parts.part_height = (size_t)1 << (parts.log_height - parts.log_parts);
     parts.wide = parts.row * parts.part_height;
     parts.group = 1;
-    while (parts.group * parts.row < LINE && parts.group >> parts.log_parts == 0) parts.group *= 2;
+    while (parts.group >> parts.log_parts == 0 &&
+           (parts.group * parts.row < LINE ||
+            (parts.group * parts.row < line && 2 * parts.group * groups <= (size_t)1 << parts.log_parts)))
+        parts.group *= 2;
     parts.group = min(parts.group, (size_t)1 << parts.log_parts);
     size_t most = max((size_t)TASK >> parts.log_out_parts, LINE), share = quotient_up(parts.wide, 4 * threads);
     parts.chunk = min(max(min(most, share) / LINE * LINE, LINE), parts.wide) / word;
@@ -396,7 +476,8 @@ static int is_done(struct job *job, size_t threads, int has_two) {
     const struct parts *parts = &job->parts;
     size_t word = job->call->field->word;
     size_t rows = ((size_t)1 << parts->log_parts) + (has_two ? (size_t)1 << parts->log_out_parts : 0);
-    job->scratch_each = (rows * parts->chunk * word + LINE - 1) / LINE * LINE;
+    size_t of_group = parts->is_column ? parts->group * parts->wide : 0;
+    job->scratch_each = (max(rows * parts->chunk * word, of_group) + LINE - 1) / LINE * LINE;
     job->first = malloc(job->call->len * word);
     job->second = has_two ? malloc(job->call->out_len * word) : job->first;
     job->scratch = malloc(threads * job->scratch_each);
@@ -425,7 +506,7 @@ static size_t chunks_of(const struct parts *parts, size_t word) {
 static uint32_t dft(const struct call *call) {
     const struct field *field = call->field;
     size_t threads = threads_of(call);
-    struct job job = {.call = call, .by_columns = field->dft, .by_rows = field->dft};
+    struct job job = {.call = call, .by_columns = field->dft};
     if (threads > 1) {
         job.parts = parts_of(call, threads, 1);
         add_phase(&job, columns_in_place, chunks_of(&job.parts, field->word));
@@ -455,7 +536,6 @@ static uint32_t extension(const struct call *call, extension_of *whole, int of_v
     size_t threads = threads_of(call);
     struct job job = {.call = call,
                       .by_extension = of_values ? field->lde : field->padded,
-                      .by_rows = field->dft,
                       .in_reverse = in_reverse};
     if (threads > 1) {
         job.parts = parts_of(call, threads, 1);
@@ -496,12 +576,20 @@ static uint32_t is_codeword(const struct call *call, uint32_t *answer) {
         return liktrob_##FIELD##_##CALL(engine, words, len, width, added_bits, (WORD)shift, out, out_len);             \
     }
 
-#define FIELD(FIELD, WORD, MODULUS, GENERATOR, TWO_ADICITY)                                                            \
+#define FIELD(FIELD, WORD, MODULUS, TWO_ADICITY)                                                                       \
     static uint32_t FIELD##_dft(uint32_t engine, void *words, size_t len, size_t width, uint64_t shift) {              \
         return liktrob_##FIELD##_coset_dft(engine, words, len, width, (WORD)shift);                                    \
     }                                                                                                                  \
     static uint32_t FIELD##_idft(uint32_t engine, void *words, size_t len, size_t width, uint64_t shift) {             \
         return liktrob_##FIELD##_coset_idft(engine, words, len, width, (WORD)shift);                                   \
+    }                                                                                                                  \
+    static uint32_t FIELD##_dft_columns(uint32_t engine, void *words, size_t len, size_t width, uint64_t shift,        \
+                                        uint64_t step) {                                                               \
+        return liktrob_##FIELD##_coset_dft_columns(engine, words, len, width, (WORD)shift, (WORD)step);                \
+    }                                                                                                                  \
+    static uint32_t FIELD##_idft_columns(uint32_t engine, void *words, size_t len, size_t width, uint64_t shift,       \
+                                         uint64_t step) {                                                              \
+        return liktrob_##FIELD##_coset_idft_columns(engine, words, len, width, (WORD)shift, (WORD)step);               \
     }                                                                                                                  \
     EXTENSION(FIELD, WORD, coset_lde)                                                                                  \
     EXTENSION(FIELD, WORD, coset_lde_bit_reversed)                                                                     \
@@ -510,16 +598,24 @@ static uint32_t is_codeword(const struct call *call, uint32_t *answer) {
                                         size_t added_bits, uint64_t shift, uint32_t *answer) {                         \
         return liktrob_##FIELD##_is_codeword(engine, words, len, width, added_bits, (WORD)shift, answer);              \
     }                                                                                                                  \
+    /* Of a shift below the modulus, and bits that the field has: there is a point. */                                 \
+    static uint64_t FIELD##_point(size_t bits, uint64_t shift, size_t index) {                                         \
+        WORD answer = 0;                                                                                               \
+        liktrob_##FIELD##_point(bits, (WORD)shift, index, &answer);                                                    \
+        return answer;                                                                                                 \
+    }                                                                                                                  \
     static const struct field FIELD = {MODULUS,                                                                        \
-                                       GENERATOR,                                                                      \
                                        TWO_ADICITY,                                                                    \
                                        sizeof(WORD),                                                                   \
                                        FIELD##_dft,                                                                    \
                                        FIELD##_idft,                                                                   \
+                                       FIELD##_dft_columns,                                                            \
+                                       FIELD##_idft_columns,                                                           \
                                        FIELD##_coset_lde,                                                              \
                                        FIELD##_coset_lde_bit_reversed,                                                 \
                                        FIELD##_coset_dft_padded,                                                       \
-                                       FIELD##_is_codeword};                                                           \
+                                       FIELD##_is_codeword,                                                            \
+                                       FIELD##_point};                                                                 \
                                                                                                                        \
     uint32_t liktrob_parallel_##FIELD##_coset_dft(uint32_t engine, WORD *words, size_t len, size_t width, WORD shift,  \
                                                   size_t threads) {                                                    \
@@ -555,6 +651,6 @@ static uint32_t is_codeword(const struct call *call, uint32_t *answer) {
         return is_codeword(&call, answer);                                                                             \
     }
 
-FIELD(baby_bear, uint32_t, LIKTROB_BABY_BEAR_MODULUS, 31, 27)
-FIELD(koala_bear, uint32_t, LIKTROB_KOALA_BEAR_MODULUS, 3, 24)
-FIELD(goldilocks, uint64_t, LIKTROB_GOLDILOCKS_MODULUS, 7, 32)
+FIELD(baby_bear, uint32_t, LIKTROB_BABY_BEAR_MODULUS, 27)
+FIELD(koala_bear, uint32_t, LIKTROB_KOALA_BEAR_MODULUS, 24)
+FIELD(goldilocks, uint64_t, LIKTROB_GOLDILOCKS_MODULUS, 32)

@@ -9,7 +9,7 @@
  *
  * Statuses are those of liktrob.h. Where the status is not LIKTROB_OK, no number that was lent has changed. A transform
  * takes one matrix of memory more, an extension one of the input's size and one of the output's, and each thread
- * 256 KiB and more. Where these are refused, one call on the calling thread answers. Where a thread is refused, fewer
+ * 512 KiB and more. Where these are refused, one call on the calling thread answers. Where a thread is refused, fewer
  * work.
  *
  * The library has these calls with POSIX threads, which end before a call returns. To have them on OpenMP's threads,
