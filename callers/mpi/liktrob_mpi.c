@@ -5,7 +5,8 @@
  * By parts: the 2^k = R * m rows of w numbers are also R wide rows of m * w. Let g generate the subgroup of order 2^k.
  * A transform on the coset of shift is coset_dft of the wide rows, as R rows of m * w columns, with the shift shift^m;
  * and then coset_dft of wide row i alone, as m rows of w columns, with the shift shift * g^i: its row j is row
- * i + R * j of the answer. Between the two each rank gives up columns for wide rows.
+ * i + R * j of the answer. Between the two each rank gives up columns for wide rows. Where w = 1, it turns these to
+ * columns beside each other, which one coset_dft_columns with the step g makes a part of the answer.
  */
 #include "liktrob_mpi.h"
 
@@ -155,7 +156,6 @@ static void exchange(const struct parts *parts, void *columns, void *wide_rows, 
 #define WORD uint32_t
 #define WORD_OF_MPI MPI_UINT32_T
 #define MODULUS LIKTROB_BABY_BEAR_MODULUS
-#define GENERATOR 31
 #define TWO_ADICITY 27
 #include "liktrob_mpi_field.h"
 
@@ -163,7 +163,6 @@ static void exchange(const struct parts *parts, void *columns, void *wide_rows, 
 #define WORD uint32_t
 #define WORD_OF_MPI MPI_UINT32_T
 #define MODULUS LIKTROB_KOALA_BEAR_MODULUS
-#define GENERATOR 3
 #define TWO_ADICITY 24
 #include "liktrob_mpi_field.h"
 
@@ -171,6 +170,5 @@ static void exchange(const struct parts *parts, void *columns, void *wide_rows, 
 #define WORD uint64_t
 #define WORD_OF_MPI MPI_UINT64_T
 #define MODULUS LIKTROB_GOLDILOCKS_MODULUS
-#define GENERATOR 7
 #define TWO_ADICITY 32
 #include "liktrob_mpi_field.h"

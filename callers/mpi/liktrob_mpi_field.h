@@ -135,18 +135,34 @@ static uint32_t LOCAL(fault)(uint32_t engine, const WORD *part, size_t len, int 
     return status == LIKTROB_OK && needs_inverse && shift == 0 ? LIKTROB_SHIFT : status;
 }
 
-/* Each wide row of this rank through the library, on the coset of its own point. */
+/* The point shift * g^index, where g generates the subgroup of order 2^bits. The shift is below the modulus, and the
+ * field has so many bits. */
+static WORD LOCAL(point_of)(size_t bits, WORD shift, size_t index) {
+    WORD answer = 0;
+    LIBRARY(point)(bits, shift, index, &answer);
+    return answer;
+}
+
+/* Each wide row of this rank, of count, through the library, on the coset of its own point. */
 static uint32_t LOCAL(rows)(const struct parts *parts, uint32_t engine, WORD *wide_rows, size_t count, size_t width,
                             size_t log_height, WORD shift, int is_inverse) {
-    uint64_t g = power(GENERATOR, (MODULUS - 1) >> log_height, MODULUS);
-    uint64_t at = times(shift, power(g, parts->rank * count, MODULUS), MODULUS);
     uint32_t status = LIKTROB_OK;
-    for (size_t i = 0; status == LIKTROB_OK && i < count; i++, at = times(at, g, MODULUS)) {
-        WORD *row = wide_rows + i * parts->wide;
-        status = is_inverse ? LIBRARY(coset_idft)(engine, row, parts->wide, width, (WORD)at)
-                            : LIBRARY(coset_dft)(engine, row, parts->wide, width, (WORD)at);
+    for (size_t i = 0; status == LIKTROB_OK && i < count; i++) {
+        WORD *row = wide_rows + i * parts->wide, at = LOCAL(point_of)(log_height, shift, parts->rank * count + i);
+        status = is_inverse ? LIBRARY(coset_idft)(engine, row, parts->wide, width, at)
+                            : LIBRARY(coset_dft)(engine, row, parts->wide, width, at);
     }
     return status;
+}
+
+/* The same of a matrix of one column, where the wide rows are turned: they are columns beside each other, whose cosets
+ * are in a progression. */
+static uint32_t LOCAL(columns)(const struct parts *parts, uint32_t engine, WORD *turned, size_t count,
+                               size_t log_height, WORD shift, int is_inverse) {
+    WORD first = LOCAL(point_of)(log_height, shift, parts->rank * count), g = LOCAL(point_of)(log_height, 1, 1);
+    size_t len = count * parts->wide;
+    return is_inverse ? LIBRARY(coset_idft_columns)(engine, turned, len, count, first, g)
+                      : LIBRARY(coset_dft_columns)(engine, turned, len, count, first, g);
 }
 
 /* Row j of wide row i, of count wide rows, becomes row i + count * j, or the other way round. */
@@ -155,7 +171,10 @@ static void LOCAL(turn)(const struct parts *parts, WORD *to, const WORD *from, s
     for (size_t j = 0; j < parts->part_height; j++)
         for (size_t i = 0; i < count; i++) {
             size_t in_row = i * parts->wide + j * width, in_column = (j * count + i) * width;
-            memcpy(to + (is_back ? in_row : in_column), from + (is_back ? in_column : in_row), width * sizeof *to);
+            WORD *here = to + (is_back ? in_row : in_column);
+            const WORD *there = from + (is_back ? in_column : in_row);
+            if (width == 1) *here = *there;
+            else memcpy(here, there, width * sizeof *to);
         }
 }
 
@@ -174,13 +193,13 @@ uint32_t OURS(coset_dft_padded_by_parts)(uint32_t engine, const WORD *part, size
     status = agreed(status, comm);
     if (status == LIKTROB_OK) {
         exchange(&parts, columns, out, parts.own_outs, WORD_OF_MPI, 0, comm);
-        status = LOCAL(rows)(&parts, engine, out, parts.own_outs, width, parts.log_out_height, shift, 0);
+        if (width > 1) status = LOCAL(rows)(&parts, engine, out, parts.own_outs, width, parts.log_out_height, shift, 0);
+        LOCAL(turn)(&parts, columns, out, parts.own_outs, width, 0);
+        if (width == 1)
+            status = LOCAL(columns)(&parts, engine, columns, parts.own_outs, parts.log_out_height, shift, 0);
         status = agreed(status, comm);
     }
-    if (status == LIKTROB_OK) {
-        LOCAL(turn)(&parts, columns, out, parts.own_outs, width, 0);
-        memcpy(out, columns, out_len * sizeof *out);
-    }
+    if (status == LIKTROB_OK) memcpy(out, columns, out_len * sizeof *out);
     free(columns);
     return status;
 }
@@ -201,8 +220,9 @@ uint32_t OURS(coset_idft_by_parts)(uint32_t engine, WORD *part, size_t log_heigh
     if (wide_rows == NULL) {
         status = LIKTROB_MEMORY;
     } else {
+        if (width == 1) status = LOCAL(columns)(&parts, engine, part, parts.own_rows, log_height, shift, 1);
         LOCAL(turn)(&parts, wide_rows, part, parts.own_rows, width, 1);
-        status = LOCAL(rows)(&parts, engine, wide_rows, parts.own_rows, width, log_height, shift, 1);
+        if (width > 1) status = LOCAL(rows)(&parts, engine, wide_rows, parts.own_rows, width, log_height, shift, 1);
     }
     status = agreed(status, comm);
     if (status == LIKTROB_OK) {
@@ -219,5 +239,4 @@ uint32_t OURS(coset_idft_by_parts)(uint32_t engine, WORD *part, size_t log_heigh
 #undef WORD
 #undef WORD_OF_MPI
 #undef MODULUS
-#undef GENERATOR
 #undef TWO_ADICITY
