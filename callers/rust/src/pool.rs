@@ -142,6 +142,16 @@ struct Queue<I> {
     outcome: Result<(), Error>,
 }
 
+impl<I: ExactSizeIterator> Queue<I> {
+    fn is_done(&self) -> bool {
+        self.items.len() == 0 || self.outcome.is_err()
+    }
+
+    fn next(&mut self) -> Option<I::Item> {
+        if self.outcome.is_ok() { self.items.next() } else { None }
+    }
+}
+
 /// Does the work on each item, in any order, on at most so many threads, each of which makes a scratch of its own.
 /// Where there is no error, all items are done.
 ///
@@ -161,8 +171,8 @@ pub fn each<T, S>(
     let threads = threads.min(items.len());
     let unfinished = AtomicUsize::new(items.len());
     let queue = Mutex::new(Queue { items, outcome: Ok(()) });
-    let is_done = || queue.lock().map_or(true, |queue| queue.items.len() == 0 || queue.outcome.is_err());
-    let next = || queue.lock().ok().filter(|queue| queue.outcome.is_ok())?.items.next();
+    let is_done = || queue.lock().map_or(true, |queue| queue.is_done());
+    let next = || queue.lock().ok()?.next();
     let worker = || {
         if is_done() {
             return;
