@@ -19,12 +19,20 @@ use Rattle.p3_dft.specs.Shapes.{FitsDft}
 use Rattle.p3_dft.specs.Transforms.{IsInterpolation}
 use Rattle.p3_dft.specs.declared.traits.Layout.{Layout}
 use Rattle.p3_dft.specs.declared.traits.Layout.TheVariants.{Natural, BitReversed}
+use Rattle.p3_dft.proofs.Calls.Shapes.{fits_dft_as}
 use Rattle.p3_dft.proofs.Laws.Coordinates.{inverse_of_coordinate}
 use Rattle.p3_dft.proofs.Laws.TwoCalls.{exponent_within}
 use Rattle.examples.specs.ExtensionFields.{IsEmbedding, IsExtensionField, embedded_matrix}
 
 pub height-embedded : {F E : Type 0} (embedded : F → E) (m : RowMajor F) → height (embedded_matrix embedded m) ≡ height m
 height-embedded embedded m = ap (λ n. n / m.width) (length-map m.values embedded)
+
+-- an embedded matrix fits where the matrix does
+pub embedded_fits : {F E : Type 0} (embedded : F → E) (m : RowMajor F) (lifted : RowMajor E) (bits over : ℕ) → bits ≡ over → lifted ≡ embedded_matrix embedded m
+    → FitsDft bits (height m) m.width → FitsDft over (height lifted) lifted.width
+embedded_fits embedded m lifted bits over same is fits =
+    subst (λ (n : ℕ). FitsDft n (height lifted) lifted.width) same
+    (fits_dft_as _ _ _ _ _ fits (ap height is ∙ height-embedded embedded m) (ap (λ (a : RowMajor _). a.width) is))
 
 -- a polynomial of polynomials, by either variable first
 poly_swapped : {A : Type 0} (r : Ring A) (m n : ℕ) (c : ℕ → ℕ → A) (x y : A)
@@ -75,6 +83,10 @@ module _ {F E : Type 0} (f : FieldMembers F) (e : FieldMembers E) (v : SpaceMemb
       (arrangement layout k (values_of e (embedded_matrix embedded m)))
   arranged Natural k m = record { height = sym (height-embedded embedded m); width = refl; alike = λ i j _ _. sym (stored m.values _) }
   arranged BitReversed k m = record { height = sym (height-embedded embedded m); width = refl; alike = λ i j _ _. sym (stored m.values _) }
+
+  -- what is invertible below is so in the extension
+  pub embedded_unit : (s : F) → IsInvertible f.ring (f.value s) → IsInvertible e.ring (e.value (embedded s))
+  embedded_unit s invertible = subst (IsInvertible e.ring) (sym (is.base s)) (embedded_invertible f.ring e.ring is.embed is.embeds (f.value s) invertible)
 
   -- values of low degree have low degree in the extension
   pub embedded_degree : (layout : Layout) (d k : ℕ) (s : F) (m : RowMajor F) → HasDegreeBelow f g d k (f.value s) (arrangement layout k (values_of f m))

@@ -1,7 +1,7 @@
 //! Clients of `p3_dft`, as a user writes them, one to a file: each file says at its top what is proved of it.
 //!
-//! All are generic over the field and the engine, but where they show a named one. They name `p3_dft` alone;
-//! what their contracts speak of is brought in by `ghost use`.
+//! All are generic over the field and the engine, but where they show a named one. They name `p3_dft`, and `opening`
+//! also `p3_interpolation`; what their contracts speak of is brought in by `ghost use`.
 #![tactic(auto)]
 
 pub mod agreement;
@@ -20,6 +20,7 @@ pub mod linearity;
 pub mod low_degree;
 pub mod merkle_paths;
 pub mod merkle_root;
+pub mod opening;
 pub mod own_engine;
 pub mod product;
 pub mod promises;
