@@ -8,5 +8,7 @@ pub mod Elements
 pub mod Inverses
 pub mod OneOutcome
 pub mod SomeAnswer
+pub mod RefusedAnswers
+pub mod TextRoom
 pub mod ValuedJobs
 pub mod WordNumbers

@@ -26,8 +26,7 @@ use Rattle.dft_program.specs.Answers.{IsText, asked_job}
 use Rattle.dft_program.specs.Arguments.{Arguments, arguments, arguments_of, cannot_undo, faults, is_unfit, number_or_zero}
 use Rattle.dft_program.specs.Faults.{first_fault, unless_fault}
 use Rattle.dft_program.specs.NumberedFields.{NumberedField, has_inverse, members, residue_field}
-use Rattle.dft_program.specs.Refusals.{SomeRefused}
-use Rattle.dft_program.specs.Outcome.{FaultOr, Gives, IsAnswerable, IsAnswered, IsOutcome, IsOutcomeIn, IsOutcomeOver, Outcome, asked, told}
+use Rattle.dft_program.specs.Outcome.{FaultOr, Gives, HaveRefusedAnswer, IsAnswered, IsOutcome, IsOutcomeIn, IsOutcomeOver, Outcome, asked, told}
 use Rattle.dft_program.specs.Text.{text_of_rows}
 use Rattle.dft_program.proofs.Inverses.{has_inverse-from_true}
 use Rattle.dft_program.proofs.Shapes.{unfit-false}
@@ -51,7 +50,7 @@ read_whole (Some fault) value read e = absurd (cc)
 module _ {A : Type 0} (f : NumberedField A) (are_roots : AreRoots f.ring f.two_adicity f.generator)
     (injective : (x y : A) → f.number x ≡ f.number y → x ≡ y) where
   -- a text is that of the one answer
-  one_text : (job : Job A) (t u : List ℕ) → CanRun (members f) f.two_adicity job → IsText f job t → IsText f job u → t ≡ u
+  pub one_text : (job : Job A) (t u : List ℕ) → CanRun (members f) f.two_adicity job → IsText f job t → IsText f job u → t ≡ u
   one_text job t u can x y =
       let same : Same (matrix f.ring.zero x.answer) (matrix f.ring.zero y.answer) =
       one_answer (members f) f.generator f.two_adicity are_roots job x.answer y.answer can x.answers y.answers in
@@ -60,7 +59,7 @@ module _ {A : Type 0} (f : NumberedField A) (are_roots : AreRoots f.ring f.two_a
       x.shown ∙ ap (λ rs. text_of_rows (map (map f.number) rs)) one_rows ∙ sym y.shown
 
   -- words with no fault ask for a job that can be run
-  asks_for_one : (operation : Operation) (words : List (List ℕ)) (a : Arguments) → arguments f operation words ≡ Ok a
+  pub asks_for_one : (operation : Operation) (words : List (List ℕ)) (a : Arguments) → arguments f operation words ≡ Ok a
       → CanRun (members f) f.two_adicity (asked_job f operation a)
   asks_for_one operation words a e =
       let read = read_whole (first_fault (faults f operation words)) (arguments_of operation (map number_or_zero words)) a e in
@@ -129,13 +128,10 @@ one_outcome words =
     let found = some_asked (asked words) (drop 3 words) in
     (found.0, found.1, λ p is. one_asked (asked words) (drop 3 words) p found.0 is found.1)
 
--- so where each outcome of the words has status 0, there is an answer
-answerable : (words : List (List ℕ)) → ((o : Outcome) → IsOutcome words o → o.status ≡ 0) → IsAnswerable words
-answerable words all = let one = one_outcome words in (one.0, one.1, one.2, all one.0 one.1)
-
--- and where memory ran out
-pub answerable_without_memory : (words : List (List ℕ)) (s : Stopped) (r : Result (Vec ℕ Global) Stopped) → r ≡ Err s
-    → s ≡ OutOfMemory → Gives r (IsOutcome words) → SomeRefused × IsAnswerable words
-answerable_without_memory words s r stopped is gives =
+-- so where memory ran out, it is an answer
+pub answer_without_memory : (words : List (List ℕ)) (s : Stopped) (r : Result (Vec ℕ Global) Stopped) → r ≡ Err s
+    → s ≡ OutOfMemory → Gives r (IsOutcome words) → HaveRefusedAnswer words
+answer_without_memory words s r stopped is gives =
     let told = subst (λ (given : Result (Vec ℕ Global) Stopped). Gives given (IsOutcome words)) (stopped ∙ ap Err is) gives in
-    (told.1, answerable words told.0)
+    let one = one_outcome words in
+    (one.0, one.1, one.2, told one.0 one.1)

@@ -21,7 +21,7 @@ use Rattle.dft_program.specs.Arguments.{arguments, has_no_number, number_or_zero
 use Rattle.dft_program.specs.Names.{behind, engine_named, engines, field_named, fields, operation_named, operations}
 use Rattle.dft_program.specs.NumberedFields.{NumberedField, residue_field}
 use Rattle.dft_program.specs.Numbers.{number_of}
-use Rattle.dft_program.specs.Outcome.{FaultOr, IsAnswerable, IsOutcome, IsOutcomeIn, Outcome, asked, named}
+use Rattle.dft_program.specs.Outcome.{FaultOr, HaveRefusedAnswer, IsOutcome, IsOutcomeIn, IsRefusedAnswer, Outcome, asked, named}
 use Rattle.dft_program.specs.Words.{text_of_word}
 use Rattle.dft_program.proofs.OneOutcome.{one_outcome}
 use Rattle.dft_program.proofs.WordNumbers.{no_text}
@@ -120,8 +120,9 @@ outcome_of_words words texts o are is =
     follows (Ok request) is = outcome_in request.field request.operation (drop 3 words) o is
     follows (Err fault) is = is
 
--- so where the texts have an answer, the words have it
-pub answerable_words : (words texts : List (List ℕ)) → texts ≡ map text_of_word words → IsAnswerable texts → IsAnswerable words
-answerable_words words texts are answerable =
+-- so where the texts have an answer, which was refused, the words have it
+pub refused_words : (words texts : List (List ℕ)) → texts ≡ map text_of_word words → HaveRefusedAnswer texts → HaveRefusedAnswer words
+refused_words words texts are refused =
     let one = one_outcome words in
-    (one.0, one.1, one.2, ap (λ (o : Outcome). o.status) (sym (one.2 answerable.0 (outcome_of_words words texts answerable.0 are answerable.1))) ∙ answerable.3)
+    let same : refused.0 ≡ one.0 = one.2 refused.0 (outcome_of_words words texts refused.0 are refused.1) in
+    (one.0, one.1, one.2, subst IsRefusedAnswer same refused.3)

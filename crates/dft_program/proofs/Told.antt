@@ -1,14 +1,20 @@
 -- Words that were told one after another, and their texts.
-use Rattle.std.proofs.Common.{◌≡◌, ℕ, ◌+◌, Bool, true, false, String, Vec, IfOk, IsOk, refl, subst, if◌then◌else◌, List}
+use Rattle.std.proofs.Common.{◌≡◌, ℕ, ◌+◌, ◌*◌, ◌≤◌, max, Bool, true, false, String, Vec, IfOk, IsOk, refl, subst, if◌then◌else◌, List}
 use Rattle.std.proofs.Common.{[], ◌∷◌, ◌++◌, length, map, Option, Some, option_map, Result, Ok, Err, OnErr, ◌⊎◌, inl}
-use Rattle.std.proofs.Common.{inr, ap, sym, ◌∙◌, add-zero, append_assoc, arith}
+use Rattle.std.proofs.Common.{inr, ap, sym, ◌∙◌, add-zero, append-nil, append_assoc, arith}
 use Rattle.std.proofs.lemmas.List.{length-map, map-append}
 use Rattle.std.proofs.lemmas.Str.{IsUtf8-from_is_utf8, IsUtf8-string_bytes, is_utf8-from_IsUtf8}
+use Rattle.std.proofs.lemmas.List.Sums.{sum_by-cons, sum_by_push}
+use Rattle.std.specs.List.{sum_by}
 use Rattle.std.specs.Result.{result_unwrap_or}
 use Rattle.std.specs.Str.{IsUtf8, is_utf8}
 use Rattle.std.specs.String.{string_bytes, string_vec}
 use Rattle.std.specs.Vec.{vec_items}
-use Rattle.dft_program.specs.Words.{Told, ToldFirst, text_of_word, told_at, words_from}
+use Rattle.std.specs.declared.env.FillError.{FillError}
+use Rattle.std.specs.declared.env.FillError.TheVariants.{TooLong}
+use Rattle.dft_program.specs.Refusals.{RefusedWithin}
+use Rattle.dft_program.specs.Words.{RefusedReading, Told, ToldFirst, reading_room, text_of_word, told_at, told_by, too_short_with, words_from}
+use Rattle.dft_program.proofs.Refused.{refused_more}
 
 -- one more word
 words_from-append : (place : ℕ) (words : List (List ℕ)) (word : List ℕ)
@@ -28,6 +34,11 @@ module _ (old mid new : List Told) (words : List (List ℕ)) (n : ℕ) (so_far :
       ∙ ap (λ k. old ++ (words_from 1 words ++ told_at (1 + k) (Some word))) many
       ∙ ap (λ told. old ++ told) (sym (words_from-append 1 words word))
 
+-- each word takes a place in the room for reading them
+words_room : (words : List (List ℕ)) → length words ≤ sum_by (λ word. length word + 1) words
+words_room [] = omega arith
+words_room (word ∷ words) = omega (arith, words_room words, sum_by-cons (λ word. length word + 1) word words)
+
 -- since then words were told whose texts were kept
 abbrev pub KeptFirst : {X : Type 0} → (X → List ℕ) → List Told → List Told → List X → Type 0
 KeptFirst bytes old new kept = (words : List (List ℕ)) × ToldFirst old new words × (map bytes kept ≡ map text_of_word words)
@@ -38,9 +49,17 @@ module _ {X : Type 0} (bytes : X → List ℕ) (old mid new : List Told) (kept :
   as_many : n ≡ length so_far.0
   as_many = many ∙ sym (length-map kept bytes) ∙ ap length so_far.2 ∙ length-map so_far.0 text_of_word
 
-  pub maybe_one_more : (new ≡ mid) ⊎ ((word : List ℕ) × (new ≡ mid ++ told_at (1 + n) (Some word))) → (words : List (List ℕ)) × ToldFirst old new words
-  maybe_one_more (inl same) = (so_far.0, same ∙ so_far.1)
-  maybe_one_more (inr one) = (so_far.0 ++ one.0 ∷ [], one_more old mid new so_far.0 n so_far.1 as_many one.0 one.1)
+  -- memory was refused to the buffer, or to the word
+  pub refused_next : (too_short : ℕ) → ((new ≡ mid) × RefusedWithin (2 * too_short))
+      ⊎ ((word : List ℕ) × (new ≡ mid ++ told_at (1 + n) (Some word)) × RefusedWithin (length word)) → RefusedReading old new too_short
+  refused_next too_short (inl (same, was)) =
+      (so_far.0, same ∙ so_far.1, refused_more (2 * too_short) (reading_room too_short so_far.0) (omega arith) was)
+  refused_next too_short (inr (word, is, was)) = (
+    so_far.0 ++ word ∷ [],
+    one_more old mid new so_far.0 n so_far.1 as_many word is,
+    refused_more (length word) (reading_room too_short (so_far.0 ++ word ∷ []))
+        (omega (arith, sum_by_push (λ word. length word + 1) so_far.0 word)) was,
+  )
 
   module _ {W : Type 0} (view : W → List ℕ) (found : Option W) (word : W)
       (is : new ≡ mid ++ told_at (1 + n) (option_map view found)) (there : found ≡ Some word) where
@@ -48,6 +67,15 @@ module _ {X : Type 0} (bytes : X → List ℕ) (old mid new : List Told) (kept :
     one_told =
         one_more old mid new so_far.0 n so_far.1 as_many (view word)
         (is ∙ ap (λ (found : Option W). mid ++ told_at (1 + n) (option_map view found)) there)
+
+    -- memory was refused to the list of the texts
+    pub refused_kept : (too_short : ℕ) → RefusedWithin (n + 1) → RefusedReading old new too_short
+    refused_kept too_short was = (
+      so_far.0 ++ view word ∷ [],
+      one_told,
+      refused_more (n + 1) (reading_room too_short (so_far.0 ++ view word ∷ []))
+          (omega (arith, as_many, words_room so_far.0, sum_by_push (λ word. length word + 1) so_far.0 (view word))) was,
+    )
 
     pub one_kept : (text : X) → bytes text ≡ text_of_word (view word) → KeptFirst bytes old new (kept ++ text ∷ [])
     one_kept text same = (
@@ -76,3 +104,15 @@ text_of word (Err error) empty same reads none = by_cases (is_utf8 (vec_items wo
 pub on_err : {T E P : Type 0} (r : Result T E) → P → OnErr r P
 on_err (Ok value) p = tt
 on_err (Err error) p = p
+
+-- an answer that the buffer is too short tells no word, but how long it is
+pub untold : (place : ℕ) (buf : List ℕ) (old mid new : List Told) {r : Result ℕ FillError} {s : FillError} → r ≡ Err s → s ≡ TooLong
+    → new ≡ mid ++ told_by place r buf → mid ≡ old → new ≡ old
+untold place buf old mid new is too_long told so_far =
+    told ∙ ap (λ (r : Result ℕ FillError). mid ++ told_by place r buf) (is ∙ ap Err too_long) ∙ append-nil mid ∙ so_far
+
+pub too_short : (buf : List ℕ) (before after : ℕ) {r : Result ℕ FillError} {s : FillError} → r ≡ Err s → s ≡ TooLong
+    → after ≡ too_short_with before r buf → length buf ≤ after
+too_short buf before after is too_long told =
+    let longest : after ≡ max before (length buf) = told ∙ ap (λ (r : Result ℕ FillError). too_short_with before r buf) (is ∙ ap Err too_long) in
+    omega (arith, longest)

@@ -1,5 +1,7 @@
 -- A job of elements and the same job of their values: what answers the one answers the other.
-use Rattle.std.proofs.Common.{◌≡◌, ℕ, ◌+◌, ◌-◌, ◌*◌, ◌/◌, ◌^◌, ◌<◌, List, [], ◌∷◌, get_or, map, take, drop, refl, sym, ap, ap₂, ◌∙◌, subst}
+use Rattle.std.proofs.Common.{◌≡◌, ℕ, ◌+◌, ◌-◌, ◌*◌, ◌/◌, ◌^◌, ◌<◌, ◌≤◌, List, [], ◌∷◌, get_or, length, map, take, drop, refl, sym, ap, ap₂, ◌∙◌, subst}
+use Rattle.std.proofs.Common.{arith, pow_pos}
+use Rattle.std.proofs.Math.Nat.{mul-le-mul_left}
 use Rattle.std.specs.List.{range_with_len}
 use Rattle.std.proofs.lemmas.List.{length-map, take-map, drop-map}
 use Rattle.std.proofs.lemmas.Simd.{map-map}
@@ -11,7 +13,7 @@ use Rattle.p3_matrix.specs.RowMajor.{RowMajor, IsRowMajor, height, row, rows}
 use Rattle.p3_matrix.proofs.Matrices.{same_sym, same_trans}
 use Rattle.p3_matrix.specs.Cosets.{AreCoefficients, values_of}
 use Rattle.p3_dft.specs.Extensions.{IsExtension}
-use Rattle.p3_dft.specs.Jobs.{CanRun, IsAnswer}
+use Rattle.p3_dft.specs.Jobs.{CanRun, IsAnswer, answer_entries}
 use Rattle.p3_dft.specs.Shapes.{FitsLde}
 use Rattle.p3_dft.specs.Transforms.{IsInterpolation, IsTransform}
 use Rattle.p3_matrix.proofs.Polynomials.Cosets.{coefficients_same, values_same}
@@ -34,6 +36,28 @@ can_run f bits Idft m a s fits invertible = input_fits bits (height m) m.width a
 can_run f bits CosetIdft m a s fits invertible = (input_fits bits (height m) m.width a fits, invertible refl)
 can_run f bits Lde m a s fits invertible = fits
 can_run f bits CosetLde m a s fits invertible = fits
+
+times : (n a : ℕ) → n ≤ n * 2 ^ a
+times n a = let grown : n * 1 ≤ n * 2 ^ a = mul-le-mul_left n (pow_pos a) in omega (arith, grown)
+
+-- the same job of another matrix of this shape
+pub same_entries : {F A : Type 0} (op : Operation) (m : RowMajor F) (n : RowMajor A) (a : ℕ) (s : F) (t : A)
+    → length m.values ≡ length n.values → m.width ≡ n.width → answer_entries (job_of op m a s) ≡ answer_entries (job_of op n a t)
+same_entries Dft m n a s t long wide = ap₂ (λ (l w : ℕ). l / w * w) long wide
+same_entries CosetDft m n a s t long wide = ap₂ (λ (l w : ℕ). l / w * w) long wide
+same_entries Idft m n a s t long wide = ap₂ (λ (l w : ℕ). l / w * w) long wide
+same_entries CosetIdft m n a s t long wide = ap₂ (λ (l w : ℕ). l / w * w) long wide
+same_entries Lde m n a s t long wide = ap₂ (λ (l w : ℕ). l / w * w * 2 ^ a) long wide
+same_entries CosetLde m n a s t long wide = ap₂ (λ (l w : ℕ). l / w * w * 2 ^ a) long wide
+
+-- an answer has no fewer entries than the matrix
+pub no_fewer : {F : Type 0} (op : Operation) (m : RowMajor F) (a : ℕ) (s : F) → height m * m.width ≤ answer_entries (job_of op m a s)
+no_fewer Dft m a s = omega arith
+no_fewer CosetDft m a s = omega arith
+no_fewer Idft m a s = omega arith
+no_fewer CosetIdft m a s = omega arith
+no_fewer Lde m a s = times (height m * m.width) a
+no_fewer CosetLde m a s = times (height m * m.width) a
 
 -- functions that agree everywhere give one list
 map_alike : {X Y : Type 0} (f g : X → Y) (xs : List X) → ((x : X) → f x ≡ g x) → map f xs ≡ map g xs

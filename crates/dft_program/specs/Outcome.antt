@@ -1,5 +1,5 @@
 -- What the program writes for the words after its name, and the status that it ends with.
-use Rattle.std.specs.Prelude.{◌≡◌, ◌⊎◌, ℕ, List, drop, slice_get, Option, Some, None, Result, Ok, Err, Vec}
+use Rattle.std.specs.Prelude.{◌≡◌, ◌⊎◌, ℕ, ◌+◌, List, drop, length, slice_get, Option, Some, None, Result, Ok, Err, Vec}
 use Rattle.std.specs.Global.{Global}
 use Rattle.std.specs.Option.{ok_or}
 use Rattle.std.specs.Vec.{vec_items}
@@ -8,7 +8,7 @@ use Rattle.dft_program.specs.declared.fault.Fault.{Fault}
 use Rattle.dft_program.specs.declared.fault.Fault.TheVariants.{UnknownField, UnknownEngine, UnknownOperation, TooFewWords}
 use Rattle.dft_program.specs.declared.fault.Stopped.{Stopped}
 use Rattle.dft_program.specs.declared.fault.Stopped.TheVariants.{ByFault, OutOfMemory}
-use Rattle.dft_program.specs.Refusals.{SomeRefused}
+use Rattle.dft_program.specs.Refusals.{RefusedWithin}
 use Rattle.dft_program.specs.declared.names.FieldName.{FieldName}
 use Rattle.dft_program.specs.declared.names.FieldName.TheVariants.{BabyBear, Goldilocks}
 use Rattle.dft_program.specs.declared.names.Operation.{Operation}
@@ -18,7 +18,7 @@ use Rattle.dft_program.specs.Arguments.{Arguments, arguments}
 use Rattle.dft_program.specs.Faults.{◌>>=◌, line_of}
 use Rattle.dft_program.specs.Names.{field_named, engine_named, operation_named}
 use Rattle.dft_program.specs.NumberedFields.{NumberedField, residue_field}
-use Rattle.dft_program.specs.Words.{Told, ToldAll, ToldFirst}
+use Rattle.dft_program.specs.Words.{RefusedReading, Told, ToldAll}
 
 -- what the word names, if it is there
 abbrev pub named : {T : Type 0} → (List ℕ → Option T) → Fault → Option (List ℕ) → Result T Fault
@@ -63,17 +63,20 @@ IsOutcomeIn Goldilocks operation words o = IsOutcomeOver (residue_field goldiloc
 abbrev pub IsOutcome : List (List ℕ) → Outcome → Type 0
 IsOutcome words o = FaultOr (asked words) (λ request. IsOutcomeIn request.field request.operation (drop 3 words)) o
 
--- the words have an answer and no fault: there is one outcome, and its status is 0
-abbrev pub IsAnswerable : List (List ℕ) → Type 0
-IsAnswerable words = (o : Outcome) × IsOutcome words o × ((p : Outcome) → IsOutcome words p → p ≡ o) × (o.status ≡ 0)
+-- it is an answer, and memory was refused to a vector that needed room for at most two elements more than its text has bytes
+abbrev pub IsRefusedAnswer : Outcome → Type 0
+IsRefusedAnswer o = (o.status ≡ 0) × RefusedWithin (length o.text + 2)
 
--- What a function returned is an outcome; where memory ran out, each outcome has an answer.
+-- the words have one outcome, which is such an answer
+abbrev pub HaveRefusedAnswer : List (List ℕ) → Type 0
+HaveRefusedAnswer words = (o : Outcome) × IsOutcome words o × ((p : Outcome) → IsOutcome words p → p ≡ o) × IsRefusedAnswer o
+
+-- What a function returned is an outcome; where memory ran out, each outcome is an answer that was refused.
 abbrev pub Gives : Result (Vec ℕ Global) Stopped → (Outcome → Type 0) → Type 0
 Gives (Ok text) IsOne = IsOne (record { status = 0; text = vec_items text })
 Gives (Err (ByFault fault)) IsOne = IsOne (told fault)
-Gives (Err OutOfMemory) IsOne = ((o : Outcome) → IsOne o → o.status ≡ 0) × SomeRefused
+Gives (Err OutOfMemory) IsOne = (o : Outcome) → IsOne o → IsRefusedAnswer o
 
 -- memory was refused while words were read, or once all were, and these have an answer
-abbrev pub RanOut : List Told → List Told → Type 0
-RanOut old new = SomeRefused × (((words : List (List ℕ)) × ToldFirst old new words)
-    ⊎ ((words : List (List ℕ)) × ToldAll old new words × IsAnswerable words))
+abbrev pub RanOut : List Told → List Told → ℕ → Type 0
+RanOut old new too_short = RefusedReading old new too_short ⊎ ((words : List (List ℕ)) × ToldAll old new words × HaveRefusedAnswer words)

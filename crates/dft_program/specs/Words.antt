@@ -1,7 +1,9 @@
 -- The words of a command line: what its answers reported of them.
-use Rattle.std.specs.Prelude.{◌≡◌, ℕ, ◌+◌, List, [], ◌∷◌, ◌++◌, Option, Some, None, Result, Ok, Err, length, take, ◌==◌, if◌then◌else◌}
+use Rattle.std.specs.Prelude.{◌≡◌, ℕ, ◌+◌, ◌*◌, List, [], ◌∷◌, ◌++◌, Option, Some, None, Result, Ok, Err, length, max, take, ◌==◌, if◌then◌else◌}
+use Rattle.std.specs.List.{sum_by}
 use Rattle.std.specs.Str.{is_utf8}
 use Rattle.dft_program.specs.Accounts.{Call}
+use Rattle.dft_program.specs.Refusals.{RefusedWithin}
 use Rattle.std.specs.declared.env.FillError.{FillError}
 use Rattle.std.specs.declared.env.FillError.TheVariants.{NotPresent, TooLong}
 
@@ -9,6 +11,11 @@ use Rattle.std.specs.declared.env.FillError.TheVariants.{NotPresent, TooLong}
 pub record Told : Type 0 where
   pub place : ℕ
   pub word : Option (List ℕ)
+
+-- what is known of a command line: what it reported, and how many bytes the longest buffer had that was too short for a word
+pub record Heard : Type 0 where
+  pub told : List Told
+  pub too_short : ℕ
 
 -- the same of a call of an account: a word where it did not fail
 abbrev pub told_of : Call → Told
@@ -28,6 +35,12 @@ told_by place (Ok n) buf = told_at place (Some (take n buf))
 told_by place (Err NotPresent) buf = told_at place None
 told_by place (Err TooLong) buf = []
 
+-- how many bytes the longest buffer had that was too short for a word, with the answer to `word(place, buf)`
+abbrev pub too_short_with : ℕ → Result ℕ FillError → List ℕ → ℕ
+too_short_with longest (Ok n) buf = longest
+too_short_with longest (Err NotPresent) buf = longest
+too_short_with longest (Err TooLong) buf = max longest (length buf)
+
 -- these words, one after another from the place on
 abbrev pub words_from : ℕ → List (List ℕ) → List Told
 words_from place [] = []
@@ -44,3 +57,12 @@ ToldAll old new words = new ≡ old ++ all_from 1 words
 -- since then these were read, the first of them
 abbrev pub ToldFirst : List Told → List Told → List (List ℕ) → Type 0
 ToldFirst old new words = new ≡ old ++ words_from 1 words
+
+-- for how many elements a reader of these words needs room at most: a word has its bytes and one place in a list, and the
+-- buffer 256 bytes at first, or twice as many as were too few
+abbrev pub reading_room : ℕ → List (List ℕ) → ℕ
+reading_room too_short words = 256 + 2 * too_short + sum_by (λ word. length word + 1) words
+
+-- since then these were read, and memory was refused to their reader
+abbrev pub RefusedReading : List Told → List Told → ℕ → Type 0
+RefusedReading old new too_short = (words : List (List ℕ)) × ToldFirst old new words × RefusedWithin (reading_room too_short words)

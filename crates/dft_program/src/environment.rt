@@ -16,31 +16,40 @@ use std::rt::Env;
 pub struct Environment<E: Env> {
     env: E,
     account: Account,
+    // The buffers that were too short.
+    too_short: Account,
 }
 
 impl<E: Env> Model for Environment<E> {
-    ghost use Rattle.std.specs.Prelude.{List, map};
-    ghost use Rattle.dft_program.specs.Words.{Told, told_of};
+    ghost use Rattle.std.specs.Prelude.{map};
+    ghost use Rattle.dft_program.specs.Accounts.{most_bytes};
+    ghost use Rattle.dft_program.specs.Words.{Heard, told_of};
 
-    ghost Value = { List Told };
+    ghost Value = { Heard };
 
-    ghost view = { λ e. map told_of e.account.calls };
+    ghost view = { λ e. record {
+      told = map told_of e.account.calls;
+      too_short = most_bytes e.too_short.calls;
+    } };
 }
 
 impl<E: Env> Environment<E> {
     /// Nothing was asked for yet.
     pub fn new(env: E) -> Environment<E>
-        ensures { result ≡ [] }
+        ensures { result ≡ record { told = []; too_short = 0 } }
     {
         Environment {
             env,
             account: Account::new(),
+            too_short: Account::new(),
         }
     }
 }
 
 impl<E: Env> CommandLine for Environment<E> {
-    ghost told = { λ told. told };
+    ghost told = { λ heard. heard.told };
+
+    ghost too_short = { λ heard. heard.too_short };
 
     fn word(&mut self, place: usize, buf: &mut [u8]) -> Result<usize, FillError> {
         let answer = self.env.arg(place, buf);
@@ -51,7 +60,9 @@ impl<E: Env> CommandLine for Environment<E> {
             Err(FillError::NotPresent) => {
                 self.account = Account::with(&self.account, &place, &[], &1);
             }
-            Err(FillError::TooLong) => {}
+            Err(FillError::TooLong) => {
+                self.too_short = Account::with(&self.too_short, &place, buf, &1);
+            }
         }
         answer
     }

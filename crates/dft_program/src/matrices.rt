@@ -1,10 +1,10 @@
 //! Matrices from words, and the text of a matrix.
 
-ghost use Rattle.std.specs.Prelude.{◌≡◌, ◌++◌, ◌*◌, ◌/◌, ◌<◌, ◌≤◌, map, length, IfOk, OnErr, OnOk, false};
+ghost use Rattle.std.specs.Prelude.{◌≡◌, ◌++◌, ◌+◌, ◌*◌, ◌/◌, ◌<◌, ◌≤◌, map, length, IfOk, OnErr, OnOk, false};
 ghost use Rattle.std.specs.Fmt.{decimal};
 ghost use Rattle.p3_matrix.specs.RowMajor.{IsRowMajor, rows};
 ghost use Rattle.dft_program.specs.Arguments.{numbers_of, reaches};
-ghost use Rattle.dft_program.specs.Refusals.{IsSmall, SomeRefused};
+ghost use Rattle.dft_program.specs.Refusals.{IsSmall, RefusedWithin};
 ghost use Rattle.dft_program.specs.Text.{line_of_numbers, text_of_rows, spaced};
 
 use crate::arguments::{element_of, number_or_zero};
@@ -22,7 +22,7 @@ pub fn matrix_of<F: CanonicalField>(
     requires width { 1 ≤ width }
     requires full { (length words.now / width) * width ≡ length words.now }
     ensures width { IfOk result (λ m. m.width ≡ width) }
-    ensures refused { OnErr result SomeRefused }
+    ensures refused { OnErr result (RefusedWithin (length words.now)) }
     ensures numbers { IfOk result (λ m. map (λ x. F.number (F.value x)) m.values ≡ numbers_of words.now) }
 {
     let mut values = growth::with_capacity(alloc, words.len())?;
@@ -38,8 +38,9 @@ pub fn text_of<F: CanonicalField>(
     alloc: Global,
     matrix: &RowMajorMatrix<F>,
 ) -> Result<Vec<u8>, Refused>
-    ensures refused { OnErr result SomeRefused }
-    ensures whole { IfOk result (λ _. IsRowMajor matrix.now) }
+    ensures refused { OnErr result (RefusedWithin (length
+        (text_of_rows (map (map (λ x. F.number (F.value x))) (rows matrix.now))))) }
+    ensures whole { IsRowMajor matrix.now }
     ensures text { IfOk result (λ text. text.items
         ≡ text_of_rows (map (map (λ x. F.number (F.value x))) (rows matrix.now))) }
 {
@@ -51,9 +52,9 @@ pub fn text_of<F: CanonicalField>(
 }
 
 // Adds a line: the numbers in decimal, with one space between them.
-#[tactic(auto, using(crate::proofs::Refused::some_refused))]
 fn push_line<F: CanonicalField>(text: &mut Vec<u8>, row: &[F]) -> Result<(), Refused>
-    ensures refused { OnErr result SomeRefused }
+    ensures refused { OnErr result (RefusedWithin (length text.old.items
+        + length (line_of_numbers (map (λ x. F.number (F.value x)) row.now)))) }
     ensures line { OnOk result (text.new.items
         ≡ text.old.items ++ line_of_numbers (map (λ x. F.number (F.value x)) row.now)) }
 {
@@ -62,7 +63,8 @@ fn push_line<F: CanonicalField>(text: &mut Vec<u8>, row: &[F]) -> Result<(), Ref
 }
 
 fn push_numbers<F: CanonicalField>(text: &mut Vec<u8>, row: &[F]) -> Result<(), Refused>
-    ensures refused { OnErr result SomeRefused }
+    ensures refused { OnErr result (RefusedWithin (length text.old.items
+        + length (spaced (map (λ x. F.number (F.value x)) row.now)))) }
     ensures numbers { OnOk result (text.new.items
         ≡ text.old.items ++ spaced (map (λ x. F.number (F.value x)) row.now)) }
 {
@@ -78,9 +80,8 @@ fn push_numbers<F: CanonicalField>(text: &mut Vec<u8>, row: &[F]) -> Result<(), 
 }
 
 // Adds the digits of a number. Texts of std's own take memory without evidence where it is refused.
-#[tactic(auto, using(crate::proofs::Refused::some_refused))]
 fn push_number(text: &mut Vec<u8>, number: u64) -> Result<(), Refused>
-    ensures refused { OnErr result SomeRefused }
+    ensures refused { OnErr result (RefusedWithin (length text.old.items + length (decimal number))) }
     ensures number { OnOk result (text.new.items ≡ text.old.items ++ decimal number) }
 {
     if 10 <= number {

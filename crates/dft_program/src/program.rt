@@ -1,15 +1,17 @@
 //! The whole program but for the process around it: words in, text and a status out.
 
-ghost use Rattle.std.specs.Prelude.{◌≡◌, ◌≢◌, ◌<◌, ◌≤◌, ◌↔◌, ◌⊎◌, ℕ, List, map, length, Result, IfOk, OnErr, OnOk};
+ghost use Rattle.std.specs.Prelude.{◌≡◌, ◌≢◌, ◌+◌, ◌<◌, ◌≤◌, ◌↔◌, ◌⊎◌, ℕ, List, map, length, Result, IfErr, IfOk, OnErr, OnOk};
 ghost use Rattle.std.specs.Option.{ok_or};
 ghost use Rattle.std.specs.List.{slice_get};
 ghost use Rattle.std.specs.String.{string_bytes};
-ghost use Rattle.p3_dft.specs.Jobs.{CanRun, IsAnswer};
+ghost use Rattle.std.specs.Mem.{type_size};
+ghost use Rattle.p3_matrix.specs.Room.{IsWithinEither};
+ghost use Rattle.p3_dft.specs.Jobs.{CanRun, IsAnswer, answer_entries};
 ghost use Rattle.dft_program.specs.Answers.{job_of};
 ghost use Rattle.dft_program.specs.Faults.{memory_line, seen};
 ghost use Rattle.dft_program.specs.NumberedFields.{numbered};
-ghost use Rattle.dft_program.specs.Outcome.{Gives, IsAnswerable, IsOutcome, IsOutcomeIn, IsOutcomeOver, Outcome, RanOut, asked};
-ghost use Rattle.dft_program.specs.Refusals.{IsSmall, SomeRefused};
+ghost use Rattle.dft_program.specs.Outcome.{Gives, HaveRefusedAnswer, IsOutcome, IsOutcomeIn, IsOutcomeOver, Outcome, RanOut, asked};
+ghost use Rattle.dft_program.specs.Refusals.{IsSmall, RefusedWithin};
 ghost use Rattle.dft_program.specs.Sinks.{Took, TookStartOf};
 ghost use Rattle.dft_program.specs.Words.{ToldAll};
 
@@ -20,9 +22,8 @@ use crate::names::{EngineName, FieldName, Operation};
 use crate::sink::{Sink, write_text};
 use crate::words::{CommandLine, words_after_name};
 use p3_dft::{
-    BabyBear, CanonicalField, DftError, Goldilocks, Job, NaiveDft, Radix2Bowers,
-    Radix2DFTSmallBatch, Radix2Dit, Radix2DitParallel, RowMajorMatrix, TwoAdicSubgroupDft, growth,
-    run_jobs,
+    BabyBear, CanonicalField, DftError, Evaluations, Goldilocks, Job, NaiveDft, Radix2Bowers,
+    Radix2DFTSmallBatch, Radix2Dit, Radix2DitParallel, RowMajorMatrix, TwoAdicSubgroupDft,
 };
 use std::alloc::Global;
 
@@ -38,13 +39,13 @@ pub fn run<W: Sink>(alloc: Global, words: &[String], out: &mut W) -> u8
         × IsOutcome (map string_bytes words.now) (record { status = result; text = text })
         × Took (W.calls out.old) (W.calls out.new) text }
     // There is an answer, and memory for it was refused.
-    ensures memory { result ≡ 3 → SomeRefused × IsAnswerable (map string_bytes words.now)
+    ensures memory { result ≡ 3 → HaveRefusedAnswer (map string_bytes words.now)
         × Took (W.calls out.old) (W.calls out.new) memory_line }
     // Writing stopped in the midst of one of these.
     ensures stopped { result ≡ 4
         → ((o : Outcome) × IsOutcome (map string_bytes words.now) o
         × TookStartOf (W.calls out.old) (W.calls out.new) o.text)
-        ⊎ (SomeRefused × IsAnswerable (map string_bytes words.now)
+        ⊎ (HaveRefusedAnswer (map string_bytes words.now)
         × TookStartOf (W.calls out.old) (W.calls out.new) memory_line) }
     ensures failed { (result ≡ 4) ↔ ((W.calls out.old).failures < (W.calls out.new).failures) }
 {
@@ -63,13 +64,13 @@ pub fn run_command_line<L: CommandLine, W: Sink>(alloc: Global, line: &mut L, ou
         × ToldAll (L.told line.old) (L.told line.new) words
         × IsOutcome words (record { status = result; text = text })
         × Took (W.calls out.old) (W.calls out.new) text }
-    ensures memory { result ≡ 3 → RanOut (L.told line.old) (L.told line.new)
+    ensures memory { result ≡ 3 → RanOut (L.told line.old) (L.told line.new) (L.too_short line.new)
         × Took (W.calls out.old) (W.calls out.new) memory_line }
     // Writing stopped in the midst of one of these.
     ensures stopped { result ≡ 4 → ((words : List (List ℕ)) × (o : Outcome)
         × ToldAll (L.told line.old) (L.told line.new) words × IsOutcome words o
         × TookStartOf (W.calls out.old) (W.calls out.new) o.text)
-        ⊎ (RanOut (L.told line.old) (L.told line.new)
+        ⊎ (RanOut (L.told line.old) (L.told line.new) (L.too_short line.new)
         × TookStartOf (W.calls out.old) (W.calls out.new) memory_line) }
     ensures failed { (result ≡ 4) ↔ ((W.calls out.old).failures < (W.calls out.new).failures) }
 {
@@ -171,7 +172,7 @@ fn answer_in<F: CanonicalField>(
     let matrix = matrix_of::<F>(alloc, arguments.width, arguments.values)?;
     let shift = element_of(arguments.shift);
     let job = job_of(operation, matrix, arguments.added_bits, shift);
-    let answer = answer_by(alloc, engine, job)?;
+    let answer = answer_by(engine, job)?;
     Ok(text_of(alloc, &answer)?)
 }
 
@@ -194,41 +195,44 @@ fn job_of<F: CanonicalField>(
     }
 }
 
+// The answer of a new engine.
 fn answer_by<F: CanonicalField>(
-    alloc: Global,
     engine: EngineName,
     job: Job<F>,
 ) -> Result<RowMajorMatrix<F>, DftError>
     requires small { IsSmall F.row }
     requires runnable { CanRun F.Valued.own F.TWO_ADICITY job }
     ensures answer { IfOk result (IsAnswer F.Valued.own F.generator job) }
-    ensures refused { OnErr result SomeRefused }
+    ensures refused { OnErr result (RefusedWithin (answer_entries job + 2)) }
 {
     match engine {
-        EngineName::Naive => answer_to(alloc, &mut NaiveDft::default(), job),
-        EngineName::Dit => answer_to(alloc, &mut Radix2Dit::default(), job),
-        EngineName::Bowers => answer_to(alloc, &mut Radix2Bowers::default(), job),
-        EngineName::Parallel => answer_to(alloc, &mut Radix2DitParallel::default(), job),
-        EngineName::Small => answer_to(alloc, &mut Radix2DFTSmallBatch::default(), job),
+        EngineName::Naive => answer_to(&mut NaiveDft::default(), job),
+        EngineName::Dit => answer_to(&mut Radix2Dit::default(), job),
+        EngineName::Bowers => answer_to(&mut Radix2Bowers::default(), job),
+        EngineName::Parallel => answer_to(&mut Radix2DitParallel::default(), job),
+        EngineName::Small => answer_to(&mut Radix2DFTSmallBatch::default(), job),
     }
 }
 
-// The answer to one job.
+// The answer to one job. No clause of `run_jobs` bounds the list of tables.
 fn answer_to<F: CanonicalField, D: TwoAdicSubgroupDft<F>>(
-    alloc: Global,
     engine: &mut D,
     job: Job<F>,
 ) -> Result<RowMajorMatrix<F>, DftError>
-    requires small { IsSmall F.row }
-    requires tables { D.facts.table_bytes ≤ 64 }
     requires runnable { CanRun F.Valued.own F.TWO_ADICITY job }
     ensures answer { IfOk result (IsAnswer F.Valued.own F.generator job) }
-    ensures refused { OnErr result SomeRefused }
+    ensures refused { IfErr result (IsWithinEither (type_size F.row) (answer_entries job)
+        D.facts.table_bytes (D.facts.tables engine.old + answer_entries job + 1)) }
 {
-    let mut jobs = growth::with_capacity(alloc, 1)?;
-    growth::push(&mut jobs, job)?;
-    match run_jobs(engine, jobs) {
-        Ok(mut answers) => Ok(answers.pop().unwrap()),
-        Err(stopped) => Err(stopped.error),
-    }
+    let values = match job {
+        Job::Idft(matrix) => return engine.idft_batch(matrix),
+        Job::CosetIdft(matrix, shift) => return engine.coset_idft_batch(matrix, shift),
+        Job::Dft(matrix) => engine.dft_batch(matrix)?,
+        Job::CosetDft(matrix, shift) => engine.coset_dft_batch(matrix, shift)?,
+        Job::Lde(matrix, added_bits) => engine.lde_batch(matrix, added_bits)?,
+        Job::CosetLde(matrix, added_bits, shift) => {
+            engine.coset_lde_batch(matrix, added_bits, shift)?
+        }
+    };
+    Ok(values.to_row_major_matrix())
 }

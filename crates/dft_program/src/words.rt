@@ -1,11 +1,11 @@
 //! The words of the command line.
 
-ghost use Rattle.std.specs.Prelude.{◌≡◌, ◌++◌, ◌<◌, ◌⊎◌, ℕ, List, map, option_map, vec_len, IfOk, OnErr};
+ghost use Rattle.std.specs.Prelude.{◌≡◌, ◌++◌, ◌+◌, ◌*◌, ◌<◌, ◌⊎◌, ℕ, List, length, map, option_map, vec_len, IfOk, OnErr};
 ghost use Rattle.std.specs.String.{string_bytes};
 ghost use Rattle.std.specs.Vec.{vec_items};
 ghost use Rattle.std.specs.Io.{WritesAtMost};
-ghost use Rattle.dft_program.specs.Refusals.{SomeRefused};
-ghost use Rattle.dft_program.specs.Words.{Told, ToldAll, ToldFirst, text_of_word, told_at, told_by};
+ghost use Rattle.dft_program.specs.Refusals.{RefusedWithin};
+ghost use Rattle.dft_program.specs.Words.{RefusedReading, Told, ToldAll, text_of_word, told_at, told_by, too_short_with};
 
 use p3_dft::{Refused, growth};
 use std::alloc::Global;
@@ -18,10 +18,14 @@ pub trait CommandLine {
     // Of each place that was asked for: the word there, or that there is none.
     ghost told: { Self → List Told };
 
+    // How many bytes the longest buffer had that was too short for a word.
+    ghost too_short: { Self → ℕ };
+
     /// Copies the word at this place to the start of `buf`, and answers how many bytes it has.
     fn word(&mut self, place: usize, buf: &mut [u8]) -> Result<usize, FillError>
         ensures bound { WritesAtMost result buf.new }
-        ensures told { told self.new ≡ told self.old ++ told_by place result buf.new };
+        ensures told { told self.new ≡ told self.old ++ told_by place result buf.new }
+        ensures too_short { too_short self.new ≡ too_short_with (too_short self.old) result buf.new };
 }
 
 /// The texts of all words after the program's name, which is never read.
@@ -30,8 +34,7 @@ pub trait CommandLine {
 pub fn words_after_name<L: CommandLine>(alloc: Global, line: &mut L) -> Result<Vec<String>, Refused>
     ensures all { IfOk result (λ texts. (words : List (List ℕ)) × ToldAll (L.told line.old) (L.told line.new) words
         × (map string_bytes texts.items ≡ map text_of_word words)) }
-    ensures memory { OnErr result SomeRefused }
-    ensures first { OnErr result ((words : List (List ℕ)) × ToldFirst (L.told line.old) (L.told line.new) words) }
+    ensures memory { OnErr result (RefusedReading (L.told line.old) (L.told line.new) (L.too_short line.new)) }
 {
     let mut texts = Vec::new(alloc);
     let mut buffer = Vec::new(alloc);
@@ -59,9 +62,9 @@ fn word_at<L: CommandLine>(
     requires { 0 < vec_len buffer.old }
     ensures room { 0 < vec_len buffer.new }
     ensures word { IfOk result (λ word. L.told line.new ≡ L.told line.old ++ told_at place (option_map vec_items word)) }
-    ensures memory { OnErr result SomeRefused }
-    ensures refused { OnErr result ((L.told line.new ≡ L.told line.old)
-        ⊎ ((word : List ℕ) × (L.told line.new ≡ L.told line.old ++ told_at place (Some word)))) }
+    ensures refused { OnErr result (((L.told line.new ≡ L.told line.old) × RefusedWithin (2 * L.too_short line.new))
+        ⊎ ((word : List ℕ) × (L.told line.new ≡ L.told line.old ++ told_at place (Some word))
+        × RefusedWithin (length word))) }
 {
     loop {
         match line.word(place, buffer.as_mut_slice()) {

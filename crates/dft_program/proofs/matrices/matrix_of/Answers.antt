@@ -1,8 +1,9 @@
-use Rattle.std.proofs.Common.{◌≡◌, length, ap, sym, ◌∙◌}
+use Rattle.std.proofs.Common.{◌≡◌, length, take, ap, sym, ◌∙◌, arith}
 use Rattle.std.proofs.lemmas.List.{length-map, take_all}
 use Rattle.std.specs.String.{string_bytes}
 use Rattle.dft_program.specs.Arguments.{number_or_zero}
 use Rattle.dft_program.proofs.Elements.{all_below}
+use Rattle.dft_program.proofs.Lines.{taken_size}
 use Rattle.dft_program.proofs.Refused.{refused_by}
 use Rattle.dft_program.proofs.matrices.matrix_of.Goals as goal
 
@@ -22,7 +23,16 @@ new-requires-clause-full g c =
     rw same c.requires.full
 
 pub returns-in_err-values-clause-refused : goal.returns-in_err-values-clause-refused
-returns-in_err-values-clause-refused g c = refused_by c.from_residual.result _ _ c.requires.small.element c.in_err-values.ensures.room
+returns-in_err-values-clause-refused g c =
+    refused_by c.from_residual.result _ _ _ c.requires.small.element (omega arith) c.in_err-values.ensures.room
 
 pub returns-in_err-push-clause-refused : goal.returns-in_err-push-clause-refused
-returns-in_err-push-clause-refused g c = refused_by c.from_residual-in_err-push.result _ _ c.requires.small.element c.in_err-push.ensures.room
+returns-in_err-push-clause-refused g c =
+    let words = c.args.words.now in
+    let many : length c.loop-word.values.items ≡ length (take c.loop-word.word-index words) =
+    sym (length-map c.loop-word.values.items (λ x. g.F.Valued.number (g.F.Valued.value x)))
+    ∙ ap length c.loop-word.invariant
+    ∙ length-map _ (λ word. number_or_zero (string_bytes word)) in
+    refused_by c.from_residual-in_err-push.result _ _ _ c.requires.small.element
+    (omega (arith, c.loop-word.values.ok.0, many, taken_size words c.loop-word.word-index (omega (arith, c.loop-word-test.true)), c.loop-word-test.true))
+    c.in_err-push.ensures.room

@@ -1,7 +1,7 @@
 use Rattle.std.proofs.Common.{◌≡◌, map, inl, inr, ⊎_elim}
 use Rattle.std.specs.String.{string_bytes}
 use Rattle.dft_program.specs.Words.{text_of_word}
-use Rattle.dft_program.proofs.Texts.{answerable_words, outcome_of_words}
+use Rattle.dft_program.proofs.Texts.{outcome_of_words, refused_words}
 use Rattle.dft_program.proofs.program.run_command_line.Goals as goal
 
 pub returns-in-Ok-clause-ended : goal.returns-in-Ok-clause-ended
@@ -18,7 +18,7 @@ returns-in-Ok-clause-memory g c is =
     let texts = map string_bytes c.as_slice.result.now in
     let are : texts ≡ map text_of_word read.0 = rw c.as_slice.ensures.value read.2 in
     let told = c.run.ensures.memory is in
-    ((told.0, inr (read.0, read.1, answerable_words read.0 texts are told.1)), told.2)
+    (inr (read.0, read.1, refused_words read.0 texts are told.0), told.1)
 
 pub returns-in-Ok-clause-stopped : goal.returns-in-Ok-clause-stopped
 returns-in-Ok-clause-stopped g c is =
@@ -26,4 +26,4 @@ returns-in-Ok-clause-stopped g c is =
     let texts = map string_bytes c.as_slice.result.now in
     let are : texts ≡ map text_of_word read.0 = rw c.as_slice.ensures.value read.2 in
     ⊎_elim (λ cut. inl (read.0, cut.0, read.1, outcome_of_words read.0 texts cut.0 are cut.1, cut.2))
-    (λ cut. inr ((cut.0, inr (read.0, read.1, answerable_words read.0 texts are cut.1)), cut.2)) (c.run.ensures.stopped is)
+    (λ cut. inr (inr (read.0, read.1, refused_words read.0 texts are cut.0), cut.1)) (c.run.ensures.stopped is)
