@@ -3,11 +3,13 @@
 // The numbers were worked out by another program. What is known of a concrete field is dear to prove, at each call that
 // names it, so tests are generic over the field, and `over` names fields. Extension fields have one of their own.
 
+mod by_parts;
 mod clients;
 mod extensions;
 mod folding;
 mod fri;
 mod helpers;
+mod opening;
 mod own_engine;
 mod product;
 mod whole_rows;
@@ -37,6 +39,7 @@ enum Topic<'a> {
     OwnEngine,
     SmallProducts,
     LargeProducts,
+    Parts(&'a [by_parts::Case]),
     WholeRows,
 }
 
@@ -55,6 +58,7 @@ impl<'a> Topic<'a> {
             Topic::OwnEngine => own_engine::answers_agree::<F>(rt, alloc),
             Topic::SmallProducts => product::small_products_of::<F>(rt, alloc),
             Topic::LargeProducts => product::large_products::<F>(rt, alloc),
+            Topic::Parts(cases) => by_parts::each_number_of_parts::<F>(rt, alloc, cases),
             Topic::WholeRows => whole_rows::each_client::<F>(rt, alloc),
         }
     }

@@ -3,8 +3,8 @@
 
 ghost use Rattle.std.specs.Prelude.{◌≡◌, ◌*◌};
 
-use super::FieldName;
 use super::helpers::matrices::{assert_rows, elements, matrix_of, sample};
+use super::{FieldName, opening};
 use examples::extension::ExtensionField;
 use examples::extension_folding::{fold_into_extension, last_coefficients};
 use examples::quadratic::{Eleven, Quadratic, Root, Seven, Square};
@@ -16,7 +16,7 @@ use std::fmt::{Debug, Display};
 use std::process::Abort;
 
 // Two elements by their coordinates, their product, and the inverse of the first.
-struct Product {
+pub(crate) struct Product {
     left: &'static [u64],
     right: &'static [u64],
     product: &'static [u64],
@@ -24,7 +24,7 @@ struct Product {
 }
 
 // The folding of the matrix that `sample` makes, and its coefficients: coordinates of elements, row after row.
-struct Folding {
+pub(crate) struct Folding {
     shape: (usize, usize),
     seed: u8,
     layout: Layout,
@@ -545,7 +545,7 @@ const FOLDINGS_OVER_GOLDILOCKS: [Folding; 10] = [
 ];
 
 // The element with these coordinates.
-fn element<F: CanonicalField, E: ExtensionField<F>>(
+pub(crate) fn element<F: CanonicalField, E: ExtensionField<F>>(
     rt: &impl Abort,
     alloc: Global,
     numbers: &[u64],
@@ -576,7 +576,7 @@ fn products<F: CanonicalField, E: ExtensionField<F> + Debug + Display>(
 }
 
 // The coordinates of a matrix's elements, row after row.
-fn coordinates_of<F: CanonicalField, E: ExtensionField<F>>(
+pub(crate) fn coordinates_of<F: CanonicalField, E: ExtensionField<F>>(
     rt: &impl Abort,
     mat: &RowMajorMatrix<E>,
 ) -> RowMajorMatrix<F> {
@@ -648,9 +648,10 @@ fn foldings<F: CanonicalField, E: ExtensionField<F>>(
 
 // What is tested in a field that extends another.
 #[derive(Clone, Copy)]
-enum Topic<'a> {
+pub(crate) enum Topic<'a> {
     Products(&'a [Product], &'a str),
     Foldings(&'a [Folding]),
+    Openings(&'a [opening::Case]),
 }
 
 fn hold<F: CanonicalField, E: ExtensionField<F> + Debug + Display>(
@@ -661,6 +662,7 @@ fn hold<F: CanonicalField, E: ExtensionField<F> + Debug + Display>(
     match topic {
         Topic::Products(cases, root) => products::<F, E>(rt, alloc, cases, root),
         Topic::Foldings(cases) => foldings::<F, E>(rt, alloc, cases),
+        Topic::Openings(cases) => opening::openings::<F, E>(rt, alloc, cases),
     }
 }
 
@@ -681,7 +683,7 @@ fn in_degree_four<F: CanonicalField + FieldOps, W: Square<F>>(
 }
 
 // Stops the test where a topic does not hold in the field that extends one.
-fn over(rt: &impl Abort, alloc: Global, field: FieldName, topic: Topic) {
+pub(crate) fn over(rt: &impl Abort, alloc: Global, field: FieldName, topic: Topic) {
     match field {
         FieldName::BabyBear => in_degree_four::<BabyBear, Eleven>(rt, alloc, topic),
         FieldName::Goldilocks => in_degree_two::<Goldilocks, Seven>(rt, alloc, topic),
