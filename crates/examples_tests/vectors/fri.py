@@ -5,12 +5,13 @@
 
 A codeword is that of `sample`, with its rows in bit reversed order. Each layer is folded from its coefficients, as in
 `folding.py`. A leaf is the digest of a pair of rows, and a challenge is 31 times the one before plus the root, from
-zero on; digests are those of `HornerHash` by the base 7.
+zero on; digests are those of `HornerHash` by the base 7. From the last challenge on each entry of the last codeword is
+taken in by the same rule, and then a one for each query: its number is the sum modulo the number of pairs.
 """
 
 from folding import FIELDS, coefficients, reverse, root, sample, value
 
-BASE, FACTOR = 7, 31
+BASE, FACTOR, QUERIES = 7, 31, 3
 # the logarithm of the height, the width, the shift, how often it is folded
 SHAPES = [(3, 1, 3, 3), (4, 2, 5, 2), (5, 1, 1, 4)]
 
@@ -53,9 +54,15 @@ def case(field, number, log_height, width, shift, folds):
         challenges.append(challenge)
         entries = folded(field, bits, width, pow(shift, 1 << fold, p), challenge, entries)
         codewords.append(entries)
+    state, numbers = challenge, []
+    for entry in entries:
+        state = (state * FACTOR + entry) % p
+    for _query in range(QUERIES):
+        state = (state * FACTOR + 1) % p
+        numbers.append(state % (1 << (log_height - 1)))
     layers = ", ".join(f"&{c}" for c in codewords)
     return (f"Case {{ log_height: {log_height}, width: {width}, seed: {seed}, shift: {shift}, roots: &{roots}, "
-            f"challenges: &{challenges}, folded: &[{layers}] }}")
+            f"challenges: &{challenges}, numbers: {numbers}, folded: &[{layers}] }}")
 
 
 def main():

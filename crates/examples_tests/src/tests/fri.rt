@@ -3,7 +3,10 @@
 
 use super::helpers::matrices::{assert_elements, assert_rows, sample};
 use super::{FieldName, Topic, over};
-use examples::fri::{Commitment, Layer, Opening, Transcript, check, commit, open};
+use examples::fri::{
+    Commitment, Layer, Opening, Parameters, QueryTranscript, Transcript, check, commit, open,
+    verify,
+};
 use examples::merkle_paths::root_of_path;
 use examples::merkle_root::{HornerHash, RowHash};
 use p3_dft::{CanonicalField, Field, RowMajorMatrix, fits_dft};
@@ -18,6 +21,8 @@ pub(crate) struct Case {
     shift: u64,
     roots: &'static [u64],
     challenges: &'static [u64],
+    // Of the queries that are drawn.
+    numbers: [usize; 3],
     folded: &'static [&'static [u64]],
 }
 
@@ -29,6 +34,7 @@ const OVER_BABY_BEAR: [Case; 3] = [
         shift: 3,
         roots: &[1067302451, 1515514765, 1260486041],
         challenges: &[1067302451, 376370089, 848363274],
+        numbers: [3, 0, 0],
         folded: &[
             &[768367533, 1710940954, 493144649, 781820373],
             &[11563763, 1179539700],
@@ -42,6 +48,7 @@ const OVER_BABY_BEAR: [Case; 3] = [
         shift: 5,
         roots: &[959246646, 1753490611],
         challenges: &[959246646, 1291147822],
+        numbers: [6, 6, 3],
         folded: &[
             &[
                 1197593485, 1123537002, 1593242684, 1638020483, 1193418067, 829849844, 1019977255,
@@ -61,6 +68,7 @@ const OVER_BABY_BEAR: [Case; 3] = [
         shift: 1,
         roots: &[465276182, 86110938, 11881558, 1616986730],
         challenges: &[465276182, 416811133, 853431155, 1900895562],
+        numbers: [0, 14, 12],
         folded: &[
             &[
                 513045885, 271900476, 1128306507, 1402587331, 1667616873, 900058397, 1846541733,
@@ -93,6 +101,7 @@ const OVER_GOLDILOCKS: [Case; 3] = [
             239502634519659513,
             15440682020731159125,
         ],
+        numbers: [2, 0, 2],
         folded: &[
             &[
                 11548706260501603879,
@@ -111,6 +120,7 @@ const OVER_GOLDILOCKS: [Case; 3] = [
         shift: 5,
         roots: &[2201134578025857255, 15455589177629396169],
         challenges: &[2201134578025857255, 9903784818772633790],
+        numbers: [3, 1, 6],
         folded: &[
             &[
                 6568064190287180529,
@@ -159,6 +169,7 @@ const OVER_GOLDILOCKS: [Case; 3] = [
             17476053200996506122,
             1187157043594562387,
         ],
+        numbers: [9, 6, 6],
         folded: &[
             &[
                 14014733388491047747,
@@ -213,6 +224,26 @@ impl<F: Field> Transcript<F, F> for Sums<F> {
     fn draw(&mut self, root: F) -> F {
         self.last = self.last * F::from_u8(31) + root;
         self.last
+    }
+}
+
+// Takes in an entry as a root, and draws what a one then gives, modulo the number of pairs.
+impl<F: CanonicalField> QueryTranscript<F, F> for Sums<F> {
+    ghost use Rattle.std.specs.Prelude.{⊤};
+
+    ghost takes = { λ before last after. ⊤ };
+
+    ghost draws_index = { λ before bits index after. ⊤ };
+
+    fn take(&mut self, last: &RowMajorMatrix<F>) {
+        for entry in last.values() {
+            self.last = self.last * F::from_u8(31) + *entry;
+        }
+    }
+
+    fn draw_index(&mut self, bits: usize) -> usize {
+        self.last = self.last * F::from_u8(31) + F::ONE;
+        self.last.as_canonical_u64() as usize % (1 << bits)
     }
 }
 
@@ -377,4 +408,145 @@ pub(crate) fn refused_queries<F: CanonicalField>(rt: &impl Abort, alloc: Global,
 fn changed_queries_are_refused(rt: HostRuntime) {
     let topic = Topic::ChangedQueries(&OVER_BABY_BEAR);
     over(&rt, rt.alloc(), FieldName::BabyBear, topic);
+}
+
+// What a prover sends.
+#[derive(Drop)]
+struct Proof<F> {
+    parameters: Parameters<F>,
+    commitment: Commitment<F, F>,
+    queries: Vec<Vec<Opening<F, F>>>,
+}
+
+// The proof of a case, whose queries have the numbers that were worked out.
+fn made_proof<F: CanonicalField>(rt: &impl Abort, alloc: Global, case: &Case) -> Proof<F> {
+    let log_height = case.log_height;
+    let folds = case.roots.len();
+    assert!(rt; 1 <= log_height && log_height < 64 && folds <= log_height);
+    let codeword: RowMajorMatrix<F> = sample(rt, alloc, 1 << log_height, case.width, case.seed);
+    assert!(rt; fits_dft::<F>(codeword.height(), codeword.width()));
+    assert!(rt; codeword.height() == 1 << log_height);
+    let shift = F::from_u64(case.shift);
+    assert!(rt; shift.try_inverse().is_some());
+    let mut transcript = Sums { last: F::ZERO };
+    let made = commit(&hash(), codeword, log_height, shift, folds, &mut transcript);
+    let (layers, commitment) = made.expect(rt, "memory");
+    transcript.take(&commitment.last);
+    let mut queries = Vec::new(alloc);
+    for number in case.numbers {
+        let index = transcript.draw_index(log_height - 1);
+        assert!(rt; index == number);
+        assert!(rt; index < 1 << 32 && 2 * index < 1 << log_height);
+        let openings = open::<F, HornerHash<F>>(alloc, &layers, log_height, index);
+        queries
+            .push(openings.expect(rt, "memory"))
+            .expect(rt, "memory");
+    }
+    let parameters = Parameters {
+        log_height,
+        shift,
+        queries: queries.len(),
+    };
+    Proof {
+        parameters,
+        commitment,
+        queries,
+    }
+}
+
+// What differs from an honest proof.
+#[derive(Clone, Copy)]
+enum ProofChange {
+    Nothing,
+    Root,
+    RootMissing,
+    Last,
+    FirstQuery,
+    LastQuery,
+    Order,
+    QueryMissing,
+    MoreQueries,
+    LargerHeight,
+    NoHeight,
+}
+
+const PROOF_CHANGES: [ProofChange; 11] = [
+    ProofChange::Nothing,
+    ProofChange::Root,
+    ProofChange::RootMissing,
+    ProofChange::Last,
+    ProofChange::FirstQuery,
+    ProofChange::LastQuery,
+    ProofChange::Order,
+    ProofChange::QueryMissing,
+    ProofChange::MoreQueries,
+    ProofChange::LargerHeight,
+    ProofChange::NoHeight,
+];
+
+// Adds one to an entry of the first pair.
+fn change_pair<F: Field>(rt: &impl Abort, openings: &mut [Opening<F, F>]) {
+    assert!(rt; openings.len() != 0);
+    add_one(rt, openings[0].pair.values_mut(), 0);
+}
+
+fn assert_verdict<F: CanonicalField>(
+    rt: &impl Abort,
+    alloc: Global,
+    case: &Case,
+    change: ProofChange,
+) {
+    let Proof {
+        mut parameters,
+        mut commitment,
+        mut queries,
+    } = made_proof::<F>(rt, alloc, case);
+    assert!(rt; queries.len() == 3);
+    match change {
+        ProofChange::Nothing => {}
+        ProofChange::Root => add_one(rt, &mut commitment.roots, 0),
+        ProofChange::RootMissing => {
+            commitment.roots.pop();
+        }
+        ProofChange::Last => add_one(rt, commitment.last.values_mut(), 0),
+        ProofChange::FirstQuery => change_pair(rt, &mut queries[0]),
+        ProofChange::LastQuery => change_pair(rt, &mut queries[2]),
+        ProofChange::Order => queries.swap(0, 2),
+        ProofChange::QueryMissing => {
+            queries.pop();
+        }
+        ProofChange::MoreQueries => parameters.queries = 4,
+        ProofChange::LargerHeight => parameters.log_height = case.log_height.saturating_add(1),
+        ProofChange::NoHeight => parameters.log_height = 0,
+    }
+    let Commitment { roots, last, .. } = commitment;
+    let mut transcript = Sums { last: F::ZERO };
+    let verdict = verify(&hash(), &mut transcript, parameters, roots, last, &queries);
+    // Queries of one number may change places.
+    let is_honest = match change {
+        ProofChange::Nothing => true,
+        ProofChange::Order => case.numbers[0] == case.numbers[2],
+        _ => false,
+    };
+    assert!(rt; verdict.expect(rt, "memory") == is_honest);
+}
+
+pub(crate) fn proofs_and_changes<F: CanonicalField>(
+    rt: &impl Abort,
+    alloc: Global,
+    cases: &[Case],
+) {
+    for case in cases {
+        for change in PROOF_CHANGES {
+            assert_verdict::<F>(rt, alloc, case, change);
+        }
+    }
+}
+
+#[test]
+fn honest_proofs_are_verified_and_others_not(rt: HostRuntime) {
+    let topic = Topic::Proofs(&OVER_BABY_BEAR);
+    over(&rt, rt.alloc(), FieldName::BabyBear, topic);
+    let topic = Topic::Proofs(&OVER_GOLDILOCKS);
+    over(&rt, rt.alloc(), FieldName::Goldilocks, topic);
 }
