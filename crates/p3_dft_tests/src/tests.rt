@@ -10,6 +10,7 @@
 mod algebra;
 mod answers;
 mod blocks;
+mod columns;
 mod groups;
 mod helpers;
 mod jobs;
@@ -42,6 +43,7 @@ enum Topic<'a> {
     Published(&'a [blocks::Worked]),
     NothingLent,
     Changes,
+    ColumnsOnCosets(&'a str),
     RefusedJobs,
     Lists,
     Transforms,
@@ -72,6 +74,7 @@ impl<'a> Topic<'a> {
             Topic::Published(cases) => blocks::published::<F>(rt, alloc, cases),
             Topic::NothingLent => blocks::nothing_lent::<F>(rt, alloc),
             Topic::Changes => blocks::changes_over::<F>(rt, alloc),
+            Topic::ColumnsOnCosets(cases) => columns::columns_on_cosets::<F>(rt, alloc, cases),
             Topic::RefusedJobs => jobs::refused_within::<F>(rt, alloc),
             Topic::Lists => jobs::lists::<F>(rt, alloc),
             Topic::Transforms => laws::transforms_over::<F>(rt, alloc),

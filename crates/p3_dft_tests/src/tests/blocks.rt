@@ -6,7 +6,7 @@ ghost use Rattle.std.specs.Prelude.{◌≡◌, ◌<◌, Ok, length, ⊤};
 use super::helpers::engines::{
     EVERY_ENGINE, Kind, Name, TestEngine, assert_rows_of, input, rows_of,
 };
-use super::helpers::matrices::{matrix, matrix_of, sample, with_zeros};
+use super::helpers::matrices::{counting, matrix, matrix_of, sample, with_zeros};
 use super::helpers::own_engines::LimitedDft;
 use super::{FieldName, Topic, over};
 use engine_calls::answers::Input;
@@ -219,21 +219,6 @@ fn records_worked<F: CanonicalField>(rt: &impl Abort, alloc: Global, cases: &[Wo
             );
         }
     }
-}
-
-// The numbers from one on, row after row.
-fn counting<F: TwoAdicField>(
-    rt: &impl Abort,
-    alloc: Global,
-    height: usize,
-    width: usize,
-) -> RowMajorMatrix<F> {
-    let count = height.checked_mul(width).expect(rt, "so many entries");
-    let mut entries = Vec::new(alloc);
-    for i in 0..count {
-        entries.push(F::from_usize(i + 1)).expect(rt, "memory");
-    }
-    matrix_of(rt, entries, width)
 }
 
 // Where there is room for fewer blocks or elements, the rest are missed: of 32 blocks of four rows, and of one block.

@@ -5,3 +5,4 @@ pub(crate) mod engines;
 pub(crate) mod fitting;
 pub(crate) mod matrices;
 pub(crate) mod own_engines;
+pub(crate) mod texts;

@@ -57,6 +57,21 @@ pub(crate) fn sample<F: TwoAdicField>(
     matrix_of(rt, entries, width)
 }
 
+// The numbers from one on, row after row.
+pub(crate) fn counting<F: TwoAdicField>(
+    rt: &impl Abort,
+    alloc: Global,
+    height: usize,
+    width: usize,
+) -> RowMajorMatrix<F> {
+    let count = height.checked_mul(width).expect(rt, "so many entries");
+    let mut entries = Vec::new(alloc);
+    for i in 0..count {
+        entries.push(F::from_usize(i + 1)).expect(rt, "memory");
+    }
+    matrix_of(rt, entries, width)
+}
+
 // A column that begins with one number, and has another in all places after it.
 pub(crate) fn column<F: TwoAdicField>(
     rt: &impl Abort,

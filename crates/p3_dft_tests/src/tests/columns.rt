@@ -1,0 +1,225 @@
+// Transforms of matrices whose column j lies on the coset of `shift * step^j`, and back, against numbers that another
+// program worked out (`vectors/columns.py`).
+
+ghost use Rattle.std.specs.Prelude.{ℕ, ◌<◌, IsTrue, ⊤};
+ghost use Rattle.p3_field.specs.Ring.{IsInvertible};
+ghost use Rattle.p3_dft.specs.ColumnCosets.{column_shift};
+
+use super::helpers::engines::{EVERY_ENGINE, TestEngine};
+use super::helpers::matrices::{counting, matrix};
+use super::helpers::texts::numbers;
+use super::{FieldName, Topic, over};
+use engine_calls::answers::{Answer, has_inverse, rows};
+use engine_calls::work::EngineWork;
+use p3_dft::{
+    CanonicalField, Field, RowMajorMatrix, TwoAdicField, TwoAdicSubgroupDft, coset_dft_columns,
+    coset_idft_columns, fits_dft,
+};
+use std::alloc::Global;
+use std::process::Abort;
+
+const OVER_BABY_BEAR: &str = "
+    1 5 0 | 1;
+    9 31 3 | 1 2 3 4 5 6 7 8 9;
+    1 31 0 | 63 2013265860;
+    3 5 196396260 | 21 883374660 1465870240 2013265902 1129891265 547395687;
+    9 2013265890 31 | 2013265612 2013255352 2012908432 2001260152 1612457812 780306238 703410930 393526553
+        718907200 311 10573 357495 12005777 400808119 1232959695 1309855005 1619739384 1294358739;
+    1 31 11 | 1004170124 96072732 635601788 1157549321 1363792783 1759229165 1041437571 995210208;
+    3 31 1721589904 | 511287743 1083633281 933201479 826101037 527232278 119442334 54127691 1465294900
+        784327690 324073343 452274299 1596480301 1025622401 531623986 2004742842 1502626993 905643433
+        989163245 470251182 1443145657 1644085236 1325707381 1644215866 1994886502;
+    9 5 2013265890 | 6030276 827838472 736473058 1924394750 1435160847 328165133 290919802 1343167121
+        198130573 1714724219 1283189314 134650437 747831595 624400939 1740070257 603375208 1376807305
+        847701999 1216947987 95291136 1518817069 1505055092 824723309 30646527 853503370 1917952551 1969102774
+        586316952 1630998316 1227207630 1291334940 1528402336 54977097 913048554 1731023718 1905255527
+        2009001597 222046162 1271123024 646169626 68128657 1640247118 1347808259 1861168275 599176375
+        876729199 1156705204 1881278853 461940235 679529709 1646453668 1029368280 931802634 38499626 794644486
+        18884635 854447096 479592530 467638014 1933968834 1294815955 802447527 1338604203 848668976 804844540
+        429066541 996744948 411813992 678535098 1720224312 101960538 1156592679;
+    3 31 0 | 125 2 3 2013265798 2 3;
+    3 0 5 | 1 2 3 1 2 3";
+
+const OVER_KOALA_BEAR: &str = "
+    1 5 0 | 1;
+    9 3 3 | 1 2 3 4 5 6 7 8 9;
+    1 3 0 | 7 2130706428;
+    3 5 148625052 | 21 1584919869 1308216471 2130706414 545786568 822489968;
+    9 2130706430 3 | 2130706404 2130706336 2130706112 2130705384 2130703036 2130695504 2130671448 2130594904
+        2130352148 31 101 327 1057 3407 10941 34999 111545 354303;
+    1 3 11 | 24604 1403039255 1257483778 1000895285 2130692901 2058823371 873213207 1929359772;
+    3 3 1548376985 | 67252 1855797931 552186565 552819884 1516831062 14935824 1916477092 1236597271 1389396918
+        427965730 130597058 1014992615 2130669117 1028279968 297672998 55848588 1960189888 1672875149
+        214203621 1000740748 882580913 1094068023 1924498255 567478341;
+    9 5 2130706430 | 6030276 151687377 51982235 1666592041 930280697 854257702 720344597 120321170 420088811
+        1846159855 179395304 1907502021 1577439869 311068440 2059343274 2076535107 1823758721 2033157256
+        1869905781 762827262 2023217030 1014073445 685132189 1770330056 1662892935 533464027 1239917630
+        1151731854 1646571633 196417226 1615517181 1554657338 1864163586 1645424088 1517007413 1179521139
+        2126442109 1127919127 863576569 1231329258 1800481464 314434290 725764818 1763673270 2063544857
+        598914721 2032729788 126539051 1199987702 1781918493 16664448 868365247 2010412314 483763156 259127204
+        95967675 1962334544 225857313 441398293 790232751 1005168793 689952896 1934893200 664513940 395021149
+        1391257080 2122735388 1017888858 853399673 1949036636 64235985 1298646188;
+    3 3 0 | 13 2 3 2130706422 2 3;
+    3 0 5 | 1 2 3 1 2 3";
+
+const OVER_GOLDILOCKS: &str = "
+    1 5 0 | 1;
+    9 7 3 | 1 2 3 4 5 6 7 8 9;
+    1 7 0 | 15 18446744069414584308;
+    3 5 17293822564807737345 | 21 8070450523657994244 18446744068911267844 18446744069414584302
+        10376293545756590081 503316483;
+    9 18446744069414584314 7 | 18446744069414584252 18446744069414583784 18446744069414580208
+        18446744069414553112 18446744069414349028 18446744069412819592 18446744069401407640
+        18446744069316582712 18446744068688219404 71 541 4119 31217 235303 1764741 13176695 98001625 726364935;
+    1 7 11 | 7526268 15284756974504080681 18222689562750328256 10515413160103900432 18446744069408729445
+        799848982980472105 224054506662632697 10293469021240667408;
+    3 7 549755813888 | 20657204 13574228922404365997 11089114313477278180 18013228591522230838
+        5619903638421030833 13310659524020640383 10947123621702557157 9546659168444756085 9308935984260317532
+        2199841884101489138 6104735484932771376 10345913949949126319 18446744069398460893 11789639103387871681
+        11726119948246626724 15072465770307344952 15132700644235691813 5475646418037998984 7499620447707618244
+        11206296886541803515 4769315475919209258 1607951892897978866 812812429290046000 7761270663747139928;
+    9 5 18446744069414584314 | 6030276 18446739987890438813 3509457628037868468 3690667720001600215
+        17621172716924694819 5039032554731791565 4802749703045418761 1013150318355080681 5122160240485753852
+        3542527663396753849 17882854455701529746 15085255129184177461 12161160566558900196 4261265177682648567
+        5680379263551503147 6015738475971568037 2843921193415407116 10089846925153423033 15621860885318024151
+        10982347322938686736 4488067677333633691 2731945995040377480 3847146390212027578 8114910856505022738
+        17020628902491655657 18387130868449471605 4156471461456161393 2109268242627187103 5577622887210182580
+        10919882296241566654 5958929582753816839 13064312281255960338 15318303178722542694 1804298931009399065
+        8740434992069957887 11847001370051812067 18446744069410319997 4287523992012 14961941515240066909
+        14777363520257769154 13245123682371782100 6449624145545139796 1832352566966825296 12931852472932228829
+        1035827118968802607 11001847217232099770 10095776096290722086 10436845651467597449 5038565644443904467
+        9413298542496607274 13655402055356062492 10333763275188266524 9917094257777719918 16767986614192144240
+        2824883184094886722 7464396540704146089 13934021880285697086 15694895032249521809 5586420732704766665
+        2209330247671453512 17514405526720690080 3381459923362766186 14086726314164211440 1793100946158451103
+        3337234699398639238 451504499867729590 13733448216352447156 6748236754009849983 17319993975574821388
+        14463038896264513920 16571932251295705126 10680956233186028724;
+    3 7 0 | 29 2 3 18446744069414584294 2 3;
+    3 0 5 | 1 2 3 1 2 3";
+
+// Whether the shift of each column has an inverse. That of a single column is not multiplied by the step.
+fn have_inverses<F: Field>(width: usize, shift: F, step: F) -> bool
+    ensures { IsTrue result → (j : ℕ) → j < width
+        → IsInvertible F.ring (column_shift F.ring (F.value shift) (F.value step) j) }
+{
+    has_inverse(shift) && (width == 1 || has_inverse(step))
+}
+
+// What is asked of an engine.
+#[derive(Clone, Copy)]
+enum Direction {
+    ToValues,
+    ToCoefficients,
+}
+
+#[derive(Drop)]
+struct OnCosets<F> {
+    direction: Direction,
+    mat: RowMajorMatrix<F>,
+    shift: F,
+    step: F,
+}
+
+impl<F: TwoAdicField> EngineWork<F> for OnCosets<F> {
+    type Answer = Answer<F>;
+
+    ghost fits = { λ work. ⊤ };
+
+    fn on<D: TwoAdicSubgroupDft<F>>(self, engine: &mut D) -> Answer<F> {
+        let OnCosets {
+            direction,
+            mat,
+            shift,
+            step,
+        } = self;
+        if !fits_dft::<F>(mat.height(), mat.width()) {
+            return Answer::Absent;
+        }
+        match direction {
+            Direction::ToValues => rows(coset_dft_columns(engine, mat, shift, step)),
+            Direction::ToCoefficients => {
+                if have_inverses(mat.width(), shift, step) {
+                    rows(coset_idft_columns(engine, mat, shift, step))
+                } else {
+                    Answer::Absent
+                }
+            }
+        }
+    }
+}
+
+// Stops the test unless an engine answers these rows.
+fn assert_answer<F: TwoAdicField>(
+    rt: &impl Abort,
+    engine: &mut TestEngine<F>,
+    work: OnCosets<F>,
+    expected: &RowMajorMatrix<F>,
+) {
+    let height = work.mat.height();
+    let width = work.mat.width();
+    match engine.with(work) {
+        Answer::Rows(found) => assert!(rt;
+            found == *expected,
+            "columns on cosets on {}: wrong at {height} rows of {width}",
+            engine.name
+        ),
+        _ => panic!(rt;
+            "columns on cosets on {}: no answer at {height} rows of {width}",
+            engine.name
+        ),
+    }
+}
+
+// A case is the width, the shift and the step, and behind a bar the values. The coefficients are the numbers from one
+// on. Back from the values there is a way where the columns' shifts are not zero.
+fn there_and_back<F: CanonicalField>(
+    rt: &impl Abort,
+    alloc: Global,
+    engine: &mut TestEngine<F>,
+    case: &str,
+) {
+    let (on, values) = case.split_once('|').expect(rt, "a bar");
+    let on = numbers(rt, alloc, on);
+    assert!(rt; on.len() == 3);
+    let width = on[0] as usize;
+    let shift = F::new(on[1]).expect(rt, "a number below the modulus");
+    let step = F::new(on[2]).expect(rt, "a number below the modulus");
+    let values = numbers(rt, alloc, values);
+    let values = matrix(rt, alloc, values.as_slice(), width);
+    let coefficients = counting(rt, alloc, values.height(), width);
+    let there = OnCosets {
+        direction: Direction::ToValues,
+        mat: counting(rt, alloc, values.height(), width),
+        shift,
+        step,
+    };
+    assert_answer(rt, engine, there, &values);
+    if shift != F::ZERO && (width == 1 || step != F::ZERO) {
+        let back = OnCosets {
+            direction: Direction::ToCoefficients,
+            mat: values,
+            shift,
+            step,
+        };
+        assert_answer(rt, engine, back, &coefficients);
+    }
+}
+
+pub(crate) fn columns_on_cosets<F: CanonicalField>(rt: &impl Abort, alloc: Global, cases: &str) {
+    for name in EVERY_ENGINE {
+        let mut engine: TestEngine<F> = TestEngine::new(name);
+        for case in cases.split(';') {
+            there_and_back(rt, alloc, &mut engine, case);
+        }
+    }
+}
+
+#[test]
+fn columns_have_the_worked_values_on_their_cosets(rt: HostRuntime) {
+    for (field, cases) in [
+        (FieldName::BabyBear, OVER_BABY_BEAR),
+        (FieldName::KoalaBear, OVER_KOALA_BEAR),
+        (FieldName::Goldilocks, OVER_GOLDILOCKS),
+    ] {
+        over(&rt, rt.alloc(), field, Topic::ColumnsOnCosets(cases));
+    }
+}
