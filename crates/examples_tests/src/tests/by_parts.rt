@@ -299,10 +299,11 @@ const OVER_GOLDILOCKS: [Case; 10] = [
 ];
 
 fn assert_values<F: CanonicalField>(rt: &impl Abort, alloc: Global, case: &Case, log_parts: usize) {
+    assert!(rt; case.log_height < 64 && log_parts < 64);
     let height = 1 << case.log_height;
     let coefficients: RowMajorMatrix<F> = sample(rt, alloc, height, case.width, case.seed);
     assert!(rt; fits_dft::<F>(coefficients.height(), coefficients.width()));
-    assert!(rt; log_parts < 64 && 1 << log_parts <= coefficients.height());
+    assert!(rt; 1 << log_parts <= coefficients.height());
     let mut engine: Radix2Dit<F> = Radix2Dit::default();
     let shift = F::from_u64(case.shift);
     let values = coset_dft_by_parts(&mut engine, coefficients, shift, log_parts);
@@ -315,7 +316,6 @@ pub(crate) fn each_number_of_parts<F: CanonicalField>(
     cases: &[Case],
 ) {
     for case in cases {
-        assert!(rt; case.log_height < 32);
         for log_parts in 0..=case.log_height {
             assert_values::<F>(rt, alloc, case, log_parts);
         }
