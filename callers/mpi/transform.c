@@ -6,10 +6,12 @@
  *
  * FIELD is baby_bear, koala_bear or goldilocks, and CALL is coset_dft, coset_idft, coset_lde or coset_dft_padded. IN
  * has 2^LOG_HEIGHT rows of WIDTH numbers, each a word of the field as the machine has it, and OUT becomes the answer.
- * Each rank reads and writes its share alone: of the columns, where there are as many as ranks, and else a part of the
- * matrix (liktrob_mpi.h), for which there must be 2, 4, 8, .. ranks.
+ * Each rank reads and writes its share alone: of the columns, where there are at least as many as ranks, and else a
+ * part of the matrix (liktrob_mpi.h). For that the number of ranks must be a power of two whose square is at most the
+ * height.
  *
- * The exit status is that of the call on every rank, and where it is not 0, OUT is not touched.
+ * The exit status is the same on every rank: that of the call, 64 for wrong arguments, or 74 for a fault of a file.
+ * Where it is not 0, OUT is not touched, except where writing it failed.
  */
 #include <inttypes.h>
 #include <stdio.h>
