@@ -1,8 +1,7 @@
 //! What stands in a prover's code beside the transforms, over any field that has it (`FieldOps`) and over named ones:
 //! operators that change an element in its place, squares, sums and products of iterators, powers, and printed elements.
 //!
-//! Proved, with no proof file: that each can be called, and of those with a clause what they answer. Tests show
-//! the numbers and texts of the others.
+//! Proved: that each can be called, and what those with a clause return. Tests show the numbers and texts of the rest.
 
 ghost use Rattle.std.specs.Prelude.{◌≡◌, ◌↔◌, ◌<◌, ◌≤◌, ℕ, IfOk, IfSome, IsNone, OnErr, Ok, map, get_or, vec_len};
 ghost use Rattle.std.specs.Mem.{type_size};

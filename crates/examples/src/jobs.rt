@@ -1,6 +1,6 @@
 //! A list of jobs, where all answers are wanted or none.
 //!
-//! Proved: the answers are those of the jobs, in their order, with no proof file.
+//! Proved: the answers are those of the jobs, in their order.
 
 ghost use Rattle.std.specs.Prelude.{IfErr, IfOk};
 ghost use Rattle.std.specs.List.{All, AllZip};

@@ -19,6 +19,8 @@ push_folded_row-requires-clause-rows g c =
     ap length c.row-in-loop-i.ensures ∙ row_size m _ c.width-width.ensures.whole (omega (arith, c.pair_rows-near.ensures.within.1, c.requires.pairs))
     ∙ sym (ap length c.row.ensures ∙ row_size m _ c.width-width.ensures.whole (omega (arith, c.pair_rows-near.ensures.within.0, c.requires.pairs)))
 
+-- One folded row more. The rows before it stand. Entry j of the new row is the pair of the entries j of its two rows,
+-- folded with the factor that was read.
 pub loop-i-preserved : goal.loop-i-preserved
 loop-i-preserved g c =
     let f = g.F.Valued in

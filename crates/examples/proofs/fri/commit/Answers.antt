@@ -64,6 +64,8 @@ index-requires g c =
       c.in_ok-layer.layer.nodes.ok.0,
     )
 
+-- One layer more. Its challenge, codeword, tree and root are pushed together, so entry l of each list belongs to layer l.
+-- Older layers stand; the new one is what `commit_layer` ensures, at the squared shift.
 pub loop-fold-preserved : goal.loop-fold-preserved
 loop-fold-preserved g c =
     let f = g.F.Valued in

@@ -14,6 +14,7 @@ pub open_layer-requires-clause-inside : goal.open_layer-requires-clause-inside
 open_layer-requires-clause-inside g c =
     place_inside c.args.log_height c.loop-l.l c.args.index (omega (arith, c.requires.layers, c.loop-l-test.true)) c.requires.inside
 
+-- One opening more. What holds of an older opening (`inl`) still holds; the new one (`inr`) is what `open_layer` ensures.
 pub loop-l-preserved : goal.loop-l-preserved
 loop-l-preserved g c =
     let before = c.loop-l.invariant in

@@ -22,6 +22,8 @@ batch_multiplicative_inverse-requires g c i below =
     ∙ ap (λ y. minus f.ring (f.ring.mul y (power f.ring h i)) f.ring.one) (g.met.F.Field.mul_law _ _ _ c.mul-ratio.ensures) in
     (apart.0, ap (λ y. f.ring.mul y apart.0) is ∙ apart.1)
 
+-- With z the point over the shift, h the inverse of the generator and n = 2^k: divisor i is z * h^i - 1, and weight i its
+-- inverse times (z^n - 1) / n.
 pub returns : goal.returns
 returns g c =
     let f = g.F.Valued in

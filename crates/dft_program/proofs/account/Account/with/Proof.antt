@@ -34,6 +34,8 @@ stayed = (
   ),
 )
 
+-- The body makes a value with no field at run time, and gives back the four arguments: a reference, two numbers by
+-- reference, and a slice. Its ghost field is the list before with one call more, which is `made`.
 pub with_spec : {M : Type 1} → statement M
 with_spec 𝓤 𝓛 𝓜 𝓡 wired =
     let c = f.clauses 𝓛 𝓜.mem 𝓡.returns in
