@@ -1,7 +1,5 @@
 -- Sums and products that are taken one element after another.
-use Rattle.std.proofs.Common.{◌≡◌, List, [], ◌∷◌, map, sym, ap, ◌∙◌}
-use Rattle.std.specs.List.{FoldsTo}
-use Rattle.p3_field.specs.Ring.{Ring, sum_of, product_of}
+use Rattle.p3_field.proofs.Names.{◌≡◌, List, [], ◌∷◌, map, sym, ap, ◌∙◌, FoldsTo, Ring, sum_of, product_of}
 use Rattle.p3_field.proofs.Rings
 
 module _ {A S : Type 0} (R : Ring A) (v : S → A) (step : S → S → S → Type 0) where

@@ -1,10 +1,8 @@
 -- Products of the first values of a list, and how the inverse of the last one gives the inverse of each value.
-use Rattle.std.proofs.Common.{◌≡◌, ℕ, zero, suc, ◌+◌, ◌<◌, ◌≤◌, List, [], ◌∷◌, length, get_or, set, refl, ap, ap₂, sym, subst, ◌∙◌, inl, inr, arith, add-one}
-use Rattle.std.proofs.lemmas.Bool.{cases_lt}
-use Rattle.std.proofs.lemmas.List.{get_or-set_other, get_or-set_same}
-use borrow.Author.Count.{below_more}
-use Rattle.p3_field.specs.Ring.{Ring, IsInverse, IsInvertible}
+use Rattle.p3_field.proofs.Names.{◌≡◌, ℕ, zero, suc, ◌+◌, ◌<◌, ◌≤◌, List, [], ◌∷◌, length, get_or, set, refl, ap, ap₂, sym, subst, ◌∙◌, inl, inr, arith}
+use Rattle.p3_field.proofs.Names.{add-one, cases_lt, get_or-set_other, get_or-set_same, Ring, IsInverse, IsInvertible}
 use Rattle.p3_field.proofs.RingSolver.{solve, va, vb, vc, vd, ◌⊠◌}
+use borrow.Author.Count.{below_more}
 
 module _ {A : Type 0} (R : Ring A) where
   open R use {mul as ◌⊗◌, one as 𝟙}

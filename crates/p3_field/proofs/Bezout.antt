@@ -1,12 +1,7 @@
 -- Euclid's algorithm modulo an odd number.
-use Rattle.std.proofs.Common.{◌≡◌, ℕ, ◌+◌, ◌-◌, ◌*◌, ◌/◌, ◌%◌, ◌<◌, sym, ◌∙◌, ap, ap₂, subst, arith, refl, [], ◌∷◌}
-use Rattle.std.proofs.Math.Nat.{mul_comm, mod-add-div, add-mod, dvd-add_iff_right, dvd-mul_right, eq-one_of_dvd-one}
-use Rattle.std.proofs.lemmas.Nat.{mul-mod}
-use Rattle.std.proofs.lemmas.Nat.Gcd.{dvd_trans}
-use Rattle.std.specs.Int.{IsGcd, ◌∣◌}
-use Rattle.p3_field.specs.ResidueLaws.{mul-mod-mod}
-use Rattle.p3_field.specs.Residues.{Residue, residue-eq, residue_of, residues, IsProduct}
-use Rattle.p3_field.specs.Ring.{Ring, minus}
+use Rattle.p3_field.proofs.Names.{◌≡◌, ℕ, ◌+◌, ◌-◌, ◌*◌, ◌/◌, ◌%◌, ◌<◌, sym, ◌∙◌, ap, ap₂, subst, arith, refl, [], ◌∷◌, mul-mod, dvd_trans, IsGcd, ◌∣◌}
+use Rattle.p3_field.proofs.Names.{mul-mod-mod, Residue, residue-eq, residue_of, residues, IsProduct, Ring, minus, mul_comm}
+use Rattle.std.proofs.Math.Nat.{mod-add-div, add-mod, dvd-add_iff_right, dvd-mul_right, eq-one_of_dvd-one}
 use Rattle.p3_field.proofs.RingSolver.{solve, ◌⊞◌, ◌⊟◌, ◌⊠◌, va, vb, vc, vd}
 
 -- a step on the factors f and g of high and low, in any ring

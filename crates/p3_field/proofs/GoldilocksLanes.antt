@@ -1,16 +1,7 @@
 -- Arithmetic modulo 2^64 - 2^32 + 1 on the lanes of a vector of words of 64 bits.
-use Rattle.std.proofs.Common.{◌≡◌, ℕ, zero, suc, ◌+◌, ◌-◌, ◌*◌, ◌/◌, ◌%◌, ◌<◌, ◌≤◌, ◌^◌, Bool, true, false, cond, List}
-use Rattle.std.proofs.Common.{[], ◌∷◌, length, map, replicate, refl, sym, ap, ap₂, ◌∙◌, arith, ⊎_elim}
-use Rattle.std.proofs.Math.Dec.{ltb}
-use Rattle.std.proofs.Math.Nat.{mod-eq_of_lt, add-mul-mod_self_right, mul-le-mul, mod-add-div'}
-use Rattle.std.proofs.lemmas.Nat.{and_mask}
-use Rattle.std.specs.Int.Bits.{bit_and}
-use Rattle.std.proofs.lemmas.Bool.{cases_lt, lt-ltb, le-ltb, cond-true, cond-false}
-use Rattle.std.specs.Simd.Lanes.{Each1, zip2, sel_l, top}
-use mir.Syntax.{w64}
-use mir.Val.{Fits}
-use Rattle.p3_field.specs.Fields.{goldilocks_modulus}
-use Rattle.p3_field.specs.LaneNumbers.{AreBelow}
+use Rattle.p3_field.proofs.Names.{◌≡◌, ℕ, zero, suc, ◌+◌, ◌-◌, ◌*◌, ◌/◌, ◌%◌, ◌<◌, ◌≤◌, ◌^◌, Bool, true, false, cond, List, [], ◌∷◌, length, map, replicate}
+use Rattle.p3_field.proofs.Names.{refl, sym, ap, ap₂, ◌∙◌, arith, ⊎_elim, ltb, mod-eq_of_lt, add-mul-mod_self_right, mul-le-mul, mod-add-div', and_mask}
+use Rattle.p3_field.proofs.Names.{bit_and, cases_lt, lt-ltb, le-ltb, cond-true, cond-false, Each1, zip2, sel_l, top, w64, Fits, goldilocks_modulus, AreBelow}
 
 -- what a lane's operations give, modulo 2^64
 abbrev word_sum : ℕ → ℕ → ℕ

@@ -1,15 +1,8 @@
 -- Arithmetic modulo m on the lanes of a vector: one correction by the least of two, and a product by an estimated quotient.
-use Rattle.std.proofs.Common.{◌≡◌, ℕ, zero, suc, ◌+◌, ◌-◌, ◌*◌, ◌/◌, ◌%◌, ◌<◌, ◌≤◌, ◌^◌, Bool, true, false, cond, List}
-use Rattle.std.proofs.Common.{[], ◌∷◌, length, map, replicate, refl, sym, ap, ap₂, ◌∙◌, arith, ⊎_elim, lit<}
-use Rattle.std.proofs.Math.Dec.{ltb}
-use Rattle.std.proofs.Math.Nat.{mod-eq_of_lt, mod-lt, add-mod_right, add-mul-mod_self_right, mod-add-div', mul-le-mul, mul-le-mul_right, div-lt_iff_lt-mul}
-use Rattle.std.proofs.lemmas.Nat.{mul-mod_first}
-use Rattle.std.proofs.lemmas.Bool.{cases_lt, lt-ltb, le-ltb, cond-true, cond-false}
-use Rattle.std.specs.Simd.Lanes.{Each1, zip2, sel_l, top}
-use mir.Syntax.{w32, w64}
-use mir.Val.{Fits}
-use Rattle.p3_field.specs.LaneNumbers.{AreBelow}
-use mir.Facts.{Fits-widen}
+use Rattle.p3_field.proofs.Names.{◌≡◌, ℕ, zero, suc, ◌+◌, ◌-◌, ◌*◌, ◌/◌, ◌%◌, ◌<◌, ◌≤◌, ◌^◌, Bool, true, false, cond, List, [], ◌∷◌, length, map, replicate}
+use Rattle.p3_field.proofs.Names.{refl, sym, ap, ap₂, ◌∙◌, arith, ⊎_elim, lit<, ltb, mod-eq_of_lt, mod-lt, add-mod_right, add-mul-mod_self_right, mod-add-div'}
+use Rattle.p3_field.proofs.Names.{mul-le-mul, mul-le-mul_right, div-lt_iff_lt-mul, mul-mod_first, cases_lt, lt-ltb, le-ltb, cond-true, cond-false, Each1, zip2}
+use Rattle.p3_field.proofs.Names.{sel_l, top, w32, w64, Fits, AreBelow, Fits-widen}
 
 -- what a lane's operations give, modulo 2^32
 abbrev wrapped_sum : ℕ → ℕ → ℕ

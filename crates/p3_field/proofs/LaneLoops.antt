@@ -1,9 +1,7 @@
 -- Lanes that a loop writes one after another: those below its counter hold what they are to hold, the others what they held.
-use Rattle.std.proofs.Common.{◌≡◌, ℕ, zero, suc, ◌+◌, ◌*◌, ◌<◌, List, [], ◌∷◌, ◌++◌, length, map, get_or, set, take}
-use Rattle.std.proofs.Common.{drop, replicate, refl, sym, ap, ap₂, ◌∙◌, arith}
-use Rattle.std.proofs.lemmas.List.{map-set, get_or-map, get_or-set_other, get_or-set_same, length-map, length-set}
+use Rattle.p3_field.proofs.Names.{◌≡◌, ℕ, zero, suc, ◌+◌, ◌*◌, ◌<◌, List, [], ◌∷◌, ◌++◌, length, map, get_or, set, take, drop, replicate, refl, sym, ap, ap₂}
+use Rattle.p3_field.proofs.Names.{◌∙◌, arith, map-set, get_or-map, get_or-set_other, get_or-set_same, length-map, length-set, by_lanes}
 use borrow.Author.Count.{below_more}
-use Rattle.p3_field.specs.Lanes.{by_lanes}
 
 -- the first i of t, and s from there on
 abbrev pub until : {A : Type 0} → ℕ → List A → List A → List A

@@ -4,7 +4,9 @@ pub mod Bezout
 mod GoldilocksLanes
 pub mod LaneArithmetic
 pub mod LaneLoops
+mod Lemmas
 pub mod Lists
+mod Names
 pub mod Parity
 pub mod PowerLists
 pub mod Powers

@@ -1,9 +1,7 @@
 -- Lists of powers, which are made one after another.
-use Rattle.std.proofs.Common.{◌≡◌, ℕ, ◌+◌, ◌<◌, List, [], ◌∷◌, ◌++◌, length, get_or, sym, ap, ◌∙◌, arith}
-use Rattle.std.proofs.lemmas.List.{get_or_append_left, get_or_push}
-use borrow.Author.Count.{below_more}
-use Rattle.p3_field.specs.Ring.{Ring, power}
+use Rattle.p3_field.proofs.Names.{◌≡◌, ℕ, ◌+◌, ◌<◌, List, [], ◌∷◌, ◌++◌, length, get_or, sym, ap, ◌∙◌, arith, get_or_append_left, get_or_push, Ring, power}
 use Rattle.p3_field.proofs.Powers.{power-zero, power-more}
+use borrow.Author.Count.{below_more}
 
 module _ {A : Type 0} (R : Ring A) where
   pub first_power : (s x : A) → s ≡ R.mul s (power R x 0)

@@ -1,7 +1,6 @@
 -- Powers and whole numbers in a ring.
-use Rattle.std.proofs.Common.{◌≡◌, ℕ, zero, suc, ◌+◌, ◌*◌, ◌/◌, ◌%◌, ◌^◌, refl, sym, ap, ◌∙◌, arith, zero-add, suc-add, add-one}
-use Rattle.std.proofs.Math.Nat.{two-pow-succ}
-use Rattle.p3_field.specs.Ring.{Ring, two, count, power}
+use Rattle.p3_field.proofs.Names.{◌≡◌, ℕ, zero, suc, ◌+◌, ◌*◌, ◌/◌, ◌%◌, ◌^◌, refl, sym, ap, ◌∙◌, arith, zero-add, suc-add, add-one, two-pow-succ, Ring, two}
+use Rattle.p3_field.proofs.Names.{count, power}
 use Rattle.p3_field.proofs.Rings
 
 module _ {A : Type 0} (r : Ring A) where

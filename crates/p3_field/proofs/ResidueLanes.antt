@@ -1,15 +1,8 @@
 -- Residues in the lanes of a packed value: what is known of their numbers is known of them.
-use Rattle.std.proofs.Common.{◌≡◌, ℕ, zero, suc, ◌+◌, ◌-◌, ◌*◌, ◌<◌, ◌≤◌, List, [], ◌∷◌, ◌++◌, length, map, get_or, set}
-use Rattle.std.proofs.Common.{drop, refl, sym, ap, ap₂, ◌∙◌, subst, ⊎_elim, arith}
-use Rattle.std.proofs.lemmas.List.{get_or-append-add, get_or_append_left, length-map, map-append, map-id}
-use Rattle.std.proofs.lemmas.Simd.{length-zip2}
-use Rattle.std.proofs.lemmas.Bool.{cases_lt}
-use Rattle.std.specs.Simd.Lanes.{Each1, zip2}
-use Rattle.p3_field.specs.Lanes.{by_lanes}
-use Rattle.p3_field.specs.LaneNumbers.{AreBelow, elements_of}
-use Rattle.p3_field.specs.LaneLaws.{length-elements_of}
+use Rattle.p3_field.proofs.Names.{◌≡◌, ℕ, zero, suc, ◌+◌, ◌-◌, ◌*◌, ◌<◌, ◌≤◌, List, [], ◌∷◌, ◌++◌, length, map, get_or, set, drop, refl, sym, ap, ap₂, ◌∙◌}
+use Rattle.p3_field.proofs.Names.{subst, ⊎_elim, arith, get_or-append-add, get_or_append_left, length-map, map-append, map-id, length-zip2, cases_lt, Each1}
+use Rattle.p3_field.proofs.Names.{zip2, by_lanes, AreBelow, elements_of, length-elements_of, Residue, residue-eq}
 use Rattle.p3_field.proofs.Lists.{all_entries}
-use Rattle.p3_field.specs.Residues.{Residue, residue-eq}
 
 -- lists of eight
 pub eight_elements : {A B : Type 0} (f : A → B) (xs : List A) (d0 d1 d2 d3 d4 d5 d6 d7 : A) → length xs ≡ 8

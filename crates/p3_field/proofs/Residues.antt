@@ -1,12 +1,6 @@
 -- Residues modulo an odd number: sums of ones, halves, and lists of generators.
-use Rattle.std.proofs.Common.{◌≡◌, ℕ, ◌+◌, ◌/◌, ◌%◌, ◌-◌, ◌<◌, ◌≤◌, sym, ap, ◌∙◌, arith, subst, ◌*◌, List, map, get_or}
-use Rattle.std.proofs.Math.Nat.{add-mod_right, mod-eq_of_lt, mod_self, mul-le-mul}
-use Rattle.std.specs.List.{range_with_len}
-use Rattle.std.proofs.Math.Bridge.{le_prop}
-use Rattle.std.proofs.lemmas.List.FromFn.{get_or-map-range_with_len}
-use Rattle.p3_field.specs.Ring.{count}
-use Rattle.p3_field.specs.Residues.{Residue, residues, residue-eq}
-use Rattle.p3_field.specs.FieldLaws.{count-number}
+use Rattle.p3_field.proofs.Names.{◌≡◌, ℕ, ◌+◌, ◌/◌, ◌%◌, ◌-◌, ◌<◌, ◌≤◌, sym, ap, ◌∙◌, arith, subst, ◌*◌, List, map, get_or, add-mod_right, mod-eq_of_lt}
+use Rattle.p3_field.proofs.Names.{mod_self, mul-le-mul, range_with_len, le_prop, get_or-map-range_with_len, count, Residue, residues, residue-eq, count-number}
 use Rattle.p3_field.specs.Fields.{FieldNumbers, field_generator}
 
 module _ (m : ℕ) (above : 1 < m) (odd : m % 2 ≡ 1) where

@@ -1,8 +1,7 @@
 -- Equations in a ring by computation. Write both sides as `Expr`, and `solve` gives the equation between their values:
 -- both are multiplied out into sums of sorted products, and the sums are sorted. The last argument is `refl`, as in
 --     solve R (a ∷ b ∷ []) ((va ⊞ vb) ⊠ (va ⊟ vb)) (va ⊠ va ⊟ vb ⊠ vb) refl
-use Rattle.std.proofs.Common.{◌≡◌, ℕ, zero, suc, refl, sym, ap, ap₂, ◌∙◌, List, [], ◌∷◌, ◌++◌, Bool, true, false, cond, leb, eqb}
-use Rattle.p3_field.specs.Ring.{Ring}
+use Rattle.p3_field.proofs.Names.{◌≡◌, ℕ, zero, suc, refl, sym, ap, ap₂, ◌∙◌, List, [], ◌∷◌, ◌++◌, Bool, true, false, cond, leb, eqb, Ring}
 use Rattle.p3_field.proofs.Rings
 
 infixl 60 ◌⊞◌

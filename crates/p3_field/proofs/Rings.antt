@@ -1,6 +1,5 @@
 -- What follows from the laws of a ring. The laws themselves are fields, as `R.add_comm`.
-use Rattle.std.proofs.Common.{◌≡◌, sym, ap, ap₂, ◌∙◌}
-use Rattle.p3_field.specs.Ring.{Ring, two}
+use Rattle.p3_field.proofs.Names.{◌≡◌, sym, ap, ap₂, ◌∙◌, Ring, two}
 
 module _ {A : Type 0} (R : Ring A) where
   open R use {add as ◌⊕◌, mul as ◌⊗◌, neg, zero as 𝟘, one as 𝟙}

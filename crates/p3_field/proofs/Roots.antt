@@ -1,11 +1,9 @@
 -- Roots of one: powers of the generators of two-power subgroups, the inverse roots, and what is doubled as often as a root is
 -- squared. The bound of each lemma says up to which root the generators' law is used.
-use Rattle.std.proofs.Common.{◌≡◌, ℕ, zero, suc, ◌+◌, ◌*◌, ◌-◌, ◌<◌, ◌≤◌, ◌^◌, refl, sym, ap, ap₂, ◌∙◌, [], ◌∷◌, arith}
-use Rattle.std.proofs.lemmas.Nat.{pow_pos}
-use Rattle.p3_field.specs.Ring.{Ring, power, AreRoots, two}
-use Rattle.p3_field.proofs.Rings
+use Rattle.p3_field.proofs.Names.{◌≡◌, ℕ, zero, suc, ◌+◌, ◌*◌, ◌-◌, ◌<◌, ◌≤◌, ◌^◌, refl, sym, ap, ap₂, ◌∙◌, [], ◌∷◌, arith, pow_pos, Ring, power, AreRoots, two}
 use Rattle.p3_field.proofs.RingSolver.{solve, va, vb, ◌⊞◌}
 use Rattle.p3_field.proofs.Powers.{power-zero, power-suc, power-one, power-add, power_of_one, power_of_product, power-mul, power-twice, power-inverse}
+use Rattle.p3_field.proofs.Rings
 
 -- each root of g times that of h is one
 pub record AreInverseRoots {A : Type 0} (R : Ring A) (bits : ℕ) (g h : ℕ → A) : Type 0 where

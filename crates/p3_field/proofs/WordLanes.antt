@@ -1,14 +1,7 @@
 -- Lanes of 32 bits, two by two, as lanes of 64 bits and back: a vector's bytes are read in the other width.
-use Rattle.std.proofs.Common.{◌≡◌, ℕ, zero, suc, ◌+◌, ◌*◌, ◌/◌, ◌%◌, ◌<◌, ◌≤◌, ◌^◌, List, [], ◌∷◌, ◌++◌, length, map}
-use Rattle.std.proofs.Common.{replicate, get_or, refl, sym, ap, ◌∙◌, subst, arith, pow-suc, lit<}
-use Rattle.std.proofs.Math.Nat.{div-add-mod', div-lt_iff_lt-mul, mod-eq_of_lt, mul-le-mul, pow-zero}
-use Rattle.std.proofs.lemmas.Nat.{and_mask, pow-add}
-use Rattle.std.proofs.lemmas.List.{length-map}
-use Rattle.std.proofs.lemmas.Simd.{map-map, zip2_splat}
-use Rattle.std.specs.Int.Bits.{bit_and}
-use Rattle.std.specs.Simd.Lanes.{Each1, zip2, number_l, digits_l, pick_l}
-use mir.Syntax.{w32}
-use mir.Val.{Fits}
+use Rattle.p3_field.proofs.Names.{◌≡◌, ℕ, zero, suc, ◌+◌, ◌*◌, ◌/◌, ◌%◌, ◌<◌, ◌≤◌, ◌^◌, List, [], ◌∷◌, ◌++◌, length, map, replicate, get_or, refl, sym, ap, ◌∙◌}
+use Rattle.p3_field.proofs.Names.{subst, arith, pow-suc, lit<, div-add-mod', div-lt_iff_lt-mul, mod-eq_of_lt, mul-le-mul, pow-zero, and_mask, pow-add}
+use Rattle.p3_field.proofs.Names.{length-map, map-map, zip2_splat, bit_and, Each1, zip2, number_l, digits_l, pick_l, w32, Fits}
 use Rattle.p3_field.proofs.Lists.{entries, all_entries}
 use Rattle.p3_field.proofs.ResidueLanes.{each_below, each_joined}
 

@@ -1,8 +1,5 @@
-use Rattle.std.proofs.Common.{ℕ, suc, ◌≡◌, ◌-◌, ◌<◌, ap, ◌∙◌, get_or, length, lt_of_lt_of_le, arith, rules}
-use Rattle.std.proofs.lemmas.List.{get_or_read}
-use Rattle.p3_field.proofs.LaneLoops.{next_written}
-use Rattle.p3_field.proofs.BatchInverse.{first_product-none, first_product-more, invertible_product, inverse_of_last, inverse_before}
-use Rattle.p3_field.proofs.BatchInverse.{still_before, one_more_done}
+use Rattle.p3_field.proofs.Lemmas.{ℕ, suc, ◌≡◌, ◌-◌, ◌<◌, ap, ◌∙◌, get_or, length, lt_of_lt_of_le, arith, rules, get_or_read, next_written, first_product-none}
+use Rattle.p3_field.proofs.Lemmas.{first_product-more, invertible_product, inverse_of_last, inverse_before, still_before, one_more_done}
 use Rattle.p3_field.proofs.batch_inverse.batch_multiplicative_inverse_to.Goals as goal
 
 pub loop-i-init : goal.loop-i-init

@@ -1,6 +1,4 @@
-use Rattle.std.proofs.Common.{ℕ, ◌≡◌, ◌+◌, ◌*◌, ◌<◌, ◌≤◌, length, get_or}
-use Rattle.p3_field.specs.Ring.{IsInverse}
-use Rattle.p3_field.proofs.BatchInverse.{first_product}
+use Rattle.p3_field.proofs.Lemmas.{ℕ, ◌≡◌, ◌+◌, ◌*◌, ◌<◌, ◌≤◌, length, get_or, IsInverse, first_product}
 use Rattle.p3_field.proofs.batch_inverse.batch_multiplicative_inverse_to.Given as goal
 
 -- each place before i has the product of the elements before it

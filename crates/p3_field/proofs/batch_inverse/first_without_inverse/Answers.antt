@@ -1,7 +1,5 @@
-use Rattle.std.proofs.Common.{◌≡◌, Bool, true, false, not, ap, sym, ◌∙◌, get_or, below_more, lt_of_lt_of_le}
-use Rattle.std.specs.Prelude.{MatchBool}
-use Rattle.std.proofs.lemmas.List.{get_or_read}
-use Rattle.p3_field.proofs.BatchInverse.{first_product-none, first_product-more, invertible_factors}
+use Rattle.p3_field.proofs.Lemmas.{◌≡◌, Bool, true, false, not, ap, sym, ◌∙◌, get_or, below_more, lt_of_lt_of_le, MatchBool, get_or_read, first_product-none}
+use Rattle.p3_field.proofs.Lemmas.{first_product-more, invertible_factors}
 use Rattle.p3_field.proofs.batch_inverse.first_without_inverse.Goals as goal
 
 pub loop-i-init : goal.loop-i-init

@@ -1,6 +1,4 @@
-use Rattle.std.proofs.Common.{ℕ, ◌≡◌, ◌<◌, get_or}
-use Rattle.p3_field.specs.Ring.{IsInvertible}
-use Rattle.p3_field.proofs.BatchInverse.{first_product}
+use Rattle.p3_field.proofs.Lemmas.{ℕ, ◌≡◌, ◌<◌, get_or, IsInvertible, first_product}
 use Rattle.p3_field.proofs.batch_inverse.first_without_inverse.Given as goal
 
 abbrev pub invariant-loop-i : goal.invariant-loop-i

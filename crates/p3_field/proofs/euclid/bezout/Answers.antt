@@ -1,6 +1,5 @@
-use Rattle.std.proofs.Common.{arith}
+use Rattle.p3_field.proofs.Lemmas.{arith, bezout_step}
 use Rattle.std.proofs.lemmas.Nat.Gcd.{IsGcd-from_mod, IsGcd-from_zero}
-use Rattle.p3_field.proofs.Bezout.{bezout_step}
 use Rattle.p3_field.proofs.euclid.bezout.Goals as goal
 
 pub loop-low-preserved : goal.loop-low-preserved

@@ -1,5 +1,4 @@
-use Rattle.std.proofs.Common.{ℕ, ◌≡◌, ◌<◌, ◌*◌, ◌%◌}
-use Rattle.std.specs.Int.{IsGcd}
+use Rattle.p3_field.proofs.Lemmas.{ℕ, ◌≡◌, ◌<◌, ◌*◌, ◌%◌, IsGcd}
 use Rattle.p3_field.proofs.euclid.bezout.Given as goal
 
 -- each factor takes the number to what it stands beside, and no common divisor is lost

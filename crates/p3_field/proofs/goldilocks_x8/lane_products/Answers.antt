@@ -1,7 +1,4 @@
-use Rattle.std.proofs.Common.{◌+◌, ◌*◌, ◌%◌, ap₂, ◌∙◌}
-use Rattle.std.specs.Simd.Lanes.{zip2}
-use Rattle.p3_field.specs.Fields.{goldilocks_modulus}
-use Rattle.p3_field.proofs.GoldilocksLanes.{words_together}
+use Rattle.p3_field.proofs.Lemmas.{◌+◌, ◌*◌, ◌%◌, ap₂, ◌∙◌, zip2, goldilocks_modulus, words_together}
 use Rattle.p3_field.proofs.goldilocks_x8.lane_products.Goals as goal
 
 pub returns : goal.returns

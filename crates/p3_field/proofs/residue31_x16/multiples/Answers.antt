@@ -1,5 +1,4 @@
-use Rattle.std.proofs.Common.{◌∙◌}
-use Rattle.p3_field.proofs.LaneArithmetic.{rests_below, multiples_of_lanes}
+use Rattle.p3_field.proofs.Lemmas.{◌∙◌, rests_below, multiples_of_lanes}
 use Rattle.p3_field.proofs.residue31_x16.multiples.Goals as goal
 
 pub remainders-requires : goal.remainders-requires

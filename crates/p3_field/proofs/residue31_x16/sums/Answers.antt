@@ -1,5 +1,4 @@
-use Rattle.std.proofs.Common.{◌∙◌}
-use Rattle.p3_field.proofs.LaneArithmetic.{sums_of_lanes, sums_below}
+use Rattle.p3_field.proofs.Lemmas.{◌∙◌, sums_of_lanes, sums_below}
 use Rattle.p3_field.proofs.residue31_x16.sums.Goals as goal
 
 pub remainders-requires : goal.remainders-requires

@@ -1,6 +1,4 @@
-use Rattle.std.proofs.Common.{◌∙◌}
-use Rattle.std.proofs.lemmas.List.{map-id}
-use Rattle.p3_field.proofs.LaneArithmetic.{uppers_fit, rests_of_products_fit, rests_of_products_below, products_of_lanes, widened}
+use Rattle.p3_field.proofs.Lemmas.{◌∙◌, map-id, uppers_fit, rests_of_products_fit, rests_of_products_below, products_of_lanes, widened}
 use Rattle.p3_field.proofs.residue31_x8.lane_products.Goals as goal
 
 pub overflow_cast-upper : goal.overflow_cast-upper

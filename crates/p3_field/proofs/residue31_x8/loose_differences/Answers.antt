@@ -1,5 +1,4 @@
-use Rattle.std.proofs.Common.{◌∙◌}
-use Rattle.p3_field.proofs.LaneArithmetic.{loose_differences_of_lanes}
+use Rattle.p3_field.proofs.Lemmas.{◌∙◌, loose_differences_of_lanes}
 use Rattle.p3_field.proofs.residue31_x8.loose_differences.Goals as goal
 
 pub returns : goal.returns

@@ -1,5 +1,4 @@
-use Rattle.std.proofs.Common.{◌∙◌}
-use Rattle.p3_field.proofs.LaneArithmetic.{remainders_of_lanes}
+use Rattle.p3_field.proofs.Lemmas.{◌∙◌, remainders_of_lanes}
 use Rattle.p3_field.proofs.residue31_x8.remainders.Goals as goal
 
 pub returns : goal.returns

@@ -1,5 +1,4 @@
-use Rattle.std.proofs.Common.{refl}
-use Rattle.p3_field.proofs.WordLanes.{upper_halves_of_lanes}
+use Rattle.p3_field.proofs.Lemmas.{refl, upper_halves_of_lanes}
 use Rattle.p3_field.proofs.residue31_x8.upper_halves.Goals as goal
 
 pub returns : goal.returns

@@ -1,6 +1,4 @@
-use Rattle.std.proofs.Common.{refl}
-use Rattle.p3_field.specs.Fields.{baby_bear_numbers}
-use Rattle.p3_field.proofs.Residues.{listed_generator}
+use Rattle.p3_field.proofs.Lemmas.{refl, baby_bear_numbers, listed_generator}
 use Rattle.p3_field.proofs.baby_bear.BabyBearNumbersNumbers.generator_number.Goals as goal
 
 pub returns : goal.returns

@@ -1,6 +1,4 @@
-use Rattle.std.proofs.Common.{◌∙◌, ap}
-use Rattle.p3_field.proofs.Powers.{halved}
-use Rattle.p3_field.specs.Ring.{power, two}
+use Rattle.p3_field.proofs.Lemmas.{◌∙◌, ap, halved, power, two}
 use Rattle.p3_field.proofs.fields.Field.div_2exp_u64.Goals as goal
 
 pub returns : goal.returns

@@ -1,6 +1,4 @@
-use Rattle.std.proofs.Common.{◌∙◌, sym, ap, ◌^◌, le_antisymm}
-use Rattle.p3_field.proofs.Powers.{power-double, power-suc, power-zero}
-use Rattle.p3_field.specs.Ring.{power}
+use Rattle.p3_field.proofs.Lemmas.{◌∙◌, sym, ap, ◌^◌, le_antisymm, power-double, power-suc, power-zero, power}
 use Rattle.p3_field.proofs.fields.Field.exp_power_of_2.Goals as goal
 
 pub loop-i-init : goal.loop-i-init

@@ -1,6 +1,4 @@
-use Rattle.std.proofs.Common.{◌≡◌, ap, sym, ◌∙◌, arith}
-use Rattle.p3_field.specs.Ring.{power}
-use Rattle.p3_field.proofs.Powers.{step-odd, step-even, power-zero}
+use Rattle.p3_field.proofs.Lemmas.{◌≡◌, ap, sym, ◌∙◌, arith, power, step-odd, step-even, power-zero}
 use Rattle.p3_field.proofs.fields.Field.exp_u64.Goals as goal
 use Rattle.p3_field.proofs.fields.Field.exp_u64.Goals.{then-left-eq1, else-left-eq1}
 

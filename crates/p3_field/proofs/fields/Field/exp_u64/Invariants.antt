@@ -1,5 +1,4 @@
-use Rattle.std.proofs.Common.{◌≡◌}
-use Rattle.p3_field.specs.Ring.{power}
+use Rattle.p3_field.proofs.Lemmas.{◌≡◌, power}
 use Rattle.p3_field.proofs.fields.Field.exp_u64.Given as goal
 
 abbrev pub invariant-loop-left : goal.invariant-loop-left

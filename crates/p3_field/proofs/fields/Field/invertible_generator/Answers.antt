@@ -1,5 +1,4 @@
-use Rattle.std.proofs.Common.{sym, subst}
-use Rattle.p3_field.specs.Ring.{IsInvertible}
+use Rattle.p3_field.proofs.Lemmas.{sym, subst, IsInvertible}
 use Rattle.p3_field.proofs.fields.Field.invertible_generator.Goals as goal
 
 pub returns : goal.returns

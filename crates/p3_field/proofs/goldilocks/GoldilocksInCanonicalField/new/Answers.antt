@@ -1,7 +1,4 @@
-use Rattle.std.proofs.Common.{sym}
-use Rattle.p3_field.specs.FieldLaws.{count_law}
-use Rattle.p3_field.specs.Fields.{goldilocks_numbers}
-use Rattle.p3_field.specs.Residues.{residue-eq}
+use Rattle.p3_field.proofs.Lemmas.{sym, count_law, goldilocks_numbers, residue-eq}
 use Rattle.p3_field.proofs.goldilocks.GoldilocksInCanonicalField.new.Goals as goal
 
 pub returns-then-number-lt-MODULUS-clause-value : goal.returns-then-number-lt-MODULUS-clause-value

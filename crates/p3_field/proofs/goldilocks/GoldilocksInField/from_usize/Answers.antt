@@ -1,5 +1,4 @@
-use Rattle.std.proofs.Common.{refl}
-use Rattle.p3_field.proofs.Residues.{count-residue}
+use Rattle.p3_field.proofs.Lemmas.{refl, count-residue}
 use Rattle.p3_field.proofs.goldilocks.GoldilocksInField.from_usize.Goals as goal
 
 pub returns : goal.returns

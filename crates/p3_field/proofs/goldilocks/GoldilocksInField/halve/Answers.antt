@@ -1,7 +1,4 @@
-use Rattle.std.proofs.Common.{refl}
-use Rattle.p3_field.specs.Residues.{residue-eq}
-use Rattle.p3_field.specs.Fields.{goldilocks_modulus}
-use Rattle.p3_field.proofs.Residues.{even_half, odd_half}
+use Rattle.p3_field.proofs.Lemmas.{refl, residue-eq, goldilocks_modulus, even_half, odd_half}
 use Rattle.p3_field.proofs.goldilocks.GoldilocksInField.halve.Goals as goal
 use Rattle.p3_field.proofs.goldilocks.GoldilocksInField.halve.Goals.{then-self-eq0, else-self-eq0}
 

@@ -1,6 +1,4 @@
-use Rattle.std.proofs.Common.{refl, ap, sym}
-use Rattle.p3_field.specs.Fields.{goldilocks_modulus}
-use Rattle.p3_field.specs.Residues.{Residue, residue-eq}
+use Rattle.p3_field.proofs.Lemmas.{refl, ap, sym, goldilocks_modulus, Residue, residue-eq}
 use Rattle.p3_field.proofs.goldilocks.GoldilocksInField.try_inverse.Goals as goal
 
 pub returns-clause-some : goal.returns-clause-some

@@ -1,6 +1,4 @@
-use Rattle.std.proofs.Common.{ap, [], ◌∷◌}
-use Rattle.p3_field.specs.Fields.{goldilocks_modulus}
-use Rattle.p3_field.specs.Residues.{Residue, residue-eq}
+use Rattle.p3_field.proofs.Lemmas.{ap, [], ◌∷◌, goldilocks_modulus, Residue, residue-eq}
 use Rattle.p3_field.proofs.goldilocks.GoldilocksInPackedField.add.Goals as goal
 
 pub returns : goal.returns

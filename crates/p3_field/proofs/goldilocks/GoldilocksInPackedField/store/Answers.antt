@@ -1,5 +1,4 @@
-use Rattle.std.proofs.Common.{ap, map}
-use Rattle.p3_field.proofs.Lists.{slice_set-single}
+use Rattle.p3_field.proofs.Lemmas.{ap, map, slice_set-single}
 use Rattle.p3_field.proofs.goldilocks.GoldilocksInPackedField.store.Goals as goal
 
 pub returns : goal.returns

@@ -1,7 +1,4 @@
-use Rattle.std.proofs.Common.{ap, [], ◌∷◌}
-use Rattle.p3_field.specs.Fields.{goldilocks_modulus}
-use Rattle.p3_field.specs.FieldLaws.{difference_law}
-use Rattle.p3_field.specs.Residues.{Residue, residue-eq}
+use Rattle.p3_field.proofs.Lemmas.{ap, [], ◌∷◌, goldilocks_modulus, difference_law, Residue, residue-eq}
 use Rattle.p3_field.proofs.goldilocks.GoldilocksInPackedField.sub.Goals as goal
 
 pub returns : goal.returns

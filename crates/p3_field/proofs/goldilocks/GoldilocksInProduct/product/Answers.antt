@@ -1,7 +1,4 @@
-use Rattle.std.proofs.Common.{refl}
-use Rattle.p3_field.specs.Fields.{goldilocks_modulus, goldilocks_ring}
-use Rattle.p3_field.specs.Residues.{residue-eq, residue_at}
-use Rattle.p3_field.proofs.Accumulated.{multiplied}
+use Rattle.p3_field.proofs.Lemmas.{refl, goldilocks_modulus, goldilocks_ring, residue-eq, residue_at, multiplied}
 use Rattle.p3_field.proofs.goldilocks.GoldilocksInProduct.product.Goals as goal
 
 pub returns : goal.returns

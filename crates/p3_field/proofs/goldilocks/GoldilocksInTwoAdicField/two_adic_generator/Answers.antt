@@ -1,7 +1,4 @@
-use Rattle.std.proofs.Common.{refl, subst, sym, ◌<◌}
-use Rattle.p3_field.specs.Fields.{goldilocks_modulus, goldilocks_numbers, goldilocks_generator}
-use Rattle.p3_field.specs.Residues.{residue-eq}
-use Rattle.p3_field.proofs.Residues.{listed_generator}
+use Rattle.p3_field.proofs.Lemmas.{refl, subst, sym, ◌<◌, goldilocks_modulus, goldilocks_numbers, goldilocks_generator, residue-eq, listed_generator}
 use Rattle.p3_field.proofs.goldilocks.GoldilocksInTwoAdicField.two_adic_generator.Goals as goal
 
 pub invariant_of-result : goal.invariant_of-result

@@ -1,10 +1,5 @@
-use Rattle.std.proofs.Common.{◌∙◌, ap, length, ◌+◌, ◌%◌, refl, sym, subst, lit<}
-use Rattle.std.proofs.Math.Nat.{mod-lt}
-use Rattle.std.proofs.lemmas.Simd.{length-zip2}
-use Rattle.p3_field.specs.Fields.{goldilocks_modulus}
-use Rattle.p3_field.specs.LaneNumbers.{AreBelow}
-use Rattle.p3_field.specs.Residues.{Residue}
-use Rattle.p3_field.proofs.ResidueLanes.{lanes_of_pairs, pairs_below}
+use Rattle.p3_field.proofs.Lemmas.{◌∙◌, ap, length, ◌+◌, ◌%◌, refl, sym, subst, lit<, mod-lt, length-zip2, goldilocks_modulus, AreBelow, Residue}
+use Rattle.p3_field.proofs.Lemmas.{lanes_of_pairs, pairs_below}
 use Rattle.p3_field.proofs.goldilocks_x8.GoldilocksX8PackedField.add.Goals as goal
 
 pub invariant_of-result : goal.invariant_of-result

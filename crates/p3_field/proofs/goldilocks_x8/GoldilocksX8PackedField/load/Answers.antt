@@ -1,7 +1,4 @@
-use Rattle.std.proofs.Common.{◌∙◌, sym}
-use Rattle.std.proofs.lemmas.Simd.{map-map}
-use Rattle.p3_field.proofs.ResidueLanes.{eight_elements}
-use Rattle.p3_field.proofs.ResidueLanes.{same_numbers}
+use Rattle.p3_field.proofs.Lemmas.{◌∙◌, sym, map-map, eight_elements, same_numbers}
 use Rattle.p3_field.proofs.goldilocks_x8.GoldilocksX8PackedField.load.Goals as goal
 
 pub returns : goal.returns

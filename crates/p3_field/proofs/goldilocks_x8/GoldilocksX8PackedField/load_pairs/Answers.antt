@@ -1,7 +1,4 @@
-use Rattle.std.proofs.Common.{◌≡◌, ◌+◌, ◌*◌, ap, ◌∙◌, arith, get_or}
-use Rattle.std.proofs.lemmas.List.{get_or_default}
-use Rattle.p3_field.specs.Residues.{residue-eq}
-use Rattle.p3_field.proofs.ResidueLanes.{by_place}
+use Rattle.p3_field.proofs.Lemmas.{◌≡◌, ◌+◌, ◌*◌, ap, ◌∙◌, arith, get_or, get_or_default, residue-eq, by_place}
 use Rattle.p3_field.proofs.goldilocks_x8.GoldilocksX8PackedField.load_pairs.Goals as goal
 
 pub returns-clause-first : goal.returns-clause-first

@@ -1,10 +1,5 @@
-use Rattle.std.proofs.Common.{ℕ, List, [], ◌∷◌, zero, suc, ◌≡◌, ◌∙◌, ap, length, map, replicate, arith, ◌*◌, ◌%◌, refl, sym, subst, lit<}
-use Rattle.std.proofs.Math.Nat.{mod-lt}
-use Rattle.std.proofs.lemmas.List.{length-map}
-use Rattle.std.specs.Simd.Lanes.{zip2}
-use Rattle.p3_field.specs.Fields.{goldilocks_modulus}
-use Rattle.p3_field.specs.LaneNumbers.{AreBelow}
-use Rattle.p3_field.proofs.ResidueLanes.{lanes_of_each, each_below}
+use Rattle.p3_field.proofs.Lemmas.{ℕ, List, [], ◌∷◌, zero, suc, ◌≡◌, ◌∙◌, ap, length, map, replicate, arith, ◌*◌, ◌%◌, refl, sym, subst, lit<, mod-lt}
+use Rattle.p3_field.proofs.Lemmas.{length-map, zip2, goldilocks_modulus, AreBelow, lanes_of_each, each_below}
 use Rattle.p3_field.proofs.goldilocks_x8.GoldilocksX8PackedField.scaled.Goals as goal
 
 with_splat : (t : ℕ) (xs : List ℕ) (n : ℕ) → length xs ≡ n

@@ -1,5 +1,4 @@
-use Rattle.std.proofs.Common.{refl}
-use Rattle.p3_field.proofs.ResidueLanes.{eight_lanes}
+use Rattle.p3_field.proofs.Lemmas.{refl, eight_lanes}
 use Rattle.p3_field.proofs.goldilocks_x8.GoldilocksX8PackedField.store.Goals as goal
 
 pub returns : goal.returns

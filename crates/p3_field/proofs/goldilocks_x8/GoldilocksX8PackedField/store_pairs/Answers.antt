@@ -1,6 +1,4 @@
-use Rattle.std.proofs.Common.{◌≡◌, sym, ◌∙◌, arith, get_or, refl}
-use Rattle.p3_field.specs.Residues.{residue-eq}
-use Rattle.p3_field.proofs.ResidueLanes.{first_written, number_of_lane, second_written}
+use Rattle.p3_field.proofs.Lemmas.{◌≡◌, sym, ◌∙◌, arith, get_or, refl, residue-eq, first_written, number_of_lane, second_written}
 use Rattle.p3_field.proofs.goldilocks_x8.GoldilocksX8PackedField.store_pairs.Goals as goal
 
 pub returns-clause-first : goal.returns-clause-first

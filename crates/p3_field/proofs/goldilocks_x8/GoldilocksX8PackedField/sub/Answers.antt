@@ -1,10 +1,5 @@
-use Rattle.std.proofs.Common.{◌∙◌, ap, length, ◌+◌, ◌-◌, ◌%◌, refl, sym, subst, lit<}
-use Rattle.std.proofs.Math.Nat.{mod-lt, add-mod-mod}
-use Rattle.std.proofs.lemmas.Simd.{length-zip2}
-use Rattle.p3_field.specs.Fields.{goldilocks_modulus}
-use Rattle.p3_field.specs.LaneNumbers.{AreBelow}
-use Rattle.p3_field.specs.Residues.{Residue}
-use Rattle.p3_field.proofs.ResidueLanes.{lanes_of_pairs, pairs_below}
+use Rattle.p3_field.proofs.Lemmas.{◌∙◌, ap, length, ◌+◌, ◌-◌, ◌%◌, refl, sym, subst, lit<, mod-lt, add-mod-mod, length-zip2, goldilocks_modulus, AreBelow}
+use Rattle.p3_field.proofs.Lemmas.{Residue, lanes_of_pairs, pairs_below}
 use Rattle.p3_field.proofs.goldilocks_x8.GoldilocksX8PackedField.sub.Goals as goal
 
 pub invariant_of-result : goal.invariant_of-result

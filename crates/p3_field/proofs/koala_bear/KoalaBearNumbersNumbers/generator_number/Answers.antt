@@ -1,6 +1,4 @@
-use Rattle.std.proofs.Common.{refl}
-use Rattle.p3_field.specs.Fields.{koala_bear_numbers}
-use Rattle.p3_field.proofs.Residues.{listed_generator}
+use Rattle.p3_field.proofs.Lemmas.{refl, koala_bear_numbers, listed_generator}
 use Rattle.p3_field.proofs.koala_bear.KoalaBearNumbersNumbers.generator_number.Goals as goal
 
 pub returns : goal.returns

@@ -1,5 +1,4 @@
-use Rattle.p3_field.proofs.LaneLoops.{map-replicate}
-use Rattle.std.proofs.lemmas.List.{length-replicate}
+use Rattle.p3_field.proofs.Lemmas.{map-replicate, length-replicate}
 use Rattle.p3_field.proofs.lanes.LanesPackedField.broadcast.Goals as goal
 
 pub returns : goal.returns

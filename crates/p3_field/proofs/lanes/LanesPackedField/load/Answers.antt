@@ -1,7 +1,5 @@
-use Rattle.std.proofs.Common.{rules, ap, sym, ◌∙◌, map, replicate, refl, le_antisymm}
-use Rattle.p3_field.proofs.Lists.{place_inside}
-use Rattle.std.proofs.lemmas.List.{length-map, length-replicate, get_or-map, length-set}
-use Rattle.p3_field.proofs.LaneLoops.{written, all_written}
+use Rattle.p3_field.proofs.Lemmas.{rules, ap, sym, ◌∙◌, map, replicate, refl, le_antisymm, place_inside, length-map, length-replicate, get_or-map, length-set}
+use Rattle.p3_field.proofs.Lemmas.{written, all_written}
 use borrow.Author.Rules.{scaled_Fits}
 use Rattle.p3_field.proofs.lanes.LanesPackedField.load.Goals as goal
 

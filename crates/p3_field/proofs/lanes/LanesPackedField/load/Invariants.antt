@@ -1,5 +1,4 @@
-use Rattle.std.proofs.Common.{◌≡◌, map, length}
-use Rattle.p3_field.proofs.LaneLoops.{until}
+use Rattle.p3_field.proofs.Lemmas.{◌≡◌, map, length, until}
 use Rattle.p3_field.proofs.lanes.LanesPackedField.load.Given as goal
 
 abbrev pub invariant-loop-i : goal.invariant-loop-i

@@ -1,7 +1,5 @@
-use Rattle.std.proofs.Common.{◌+◌, ◌*◌, ◌∙◌, ap, rules, get_or, lt_of_lt_of_le}
-use Rattle.p3_field.proofs.Lists.{place_inside}
-use Rattle.std.proofs.lemmas.List.{get_or_default, length-replicate, length-set}
-use Rattle.p3_field.proofs.LaneLoops.{next_written, first_inside, second_inside}
+use Rattle.p3_field.proofs.Lemmas.{◌+◌, ◌*◌, ◌∙◌, ap, rules, get_or, lt_of_lt_of_le, place_inside, get_or_default, length-replicate, length-set, next_written}
+use Rattle.p3_field.proofs.Lemmas.{first_inside, second_inside}
 use borrow.Author.Count.{below_none}
 use borrow.Author.Rules.{scaled_Fits}
 use Rattle.p3_field.proofs.lanes.LanesPackedField.load_pairs.Goals as goal

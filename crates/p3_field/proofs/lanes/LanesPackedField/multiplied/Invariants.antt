@@ -1,6 +1,4 @@
-use Rattle.std.proofs.Common.{◌≡◌, map, length}
-use Rattle.p3_field.specs.Lanes.{by_lanes}
-use Rattle.p3_field.proofs.LaneLoops.{until}
+use Rattle.p3_field.proofs.Lemmas.{◌≡◌, map, length, by_lanes, until}
 use Rattle.p3_field.proofs.lanes.LanesPackedField.multiplied.Given as goal
 
 abbrev pub invariant-loop-i : goal.invariant-loop-i

@@ -1,6 +1,4 @@
-use Rattle.std.proofs.Common.{rules, sym, ◌∙◌, map, refl, le_antisymm}
-use Rattle.std.proofs.lemmas.List.{length-map, length-set}
-use Rattle.p3_field.proofs.LaneLoops.{more_images, all_written}
+use Rattle.p3_field.proofs.Lemmas.{rules, sym, ◌∙◌, map, refl, le_antisymm, length-map, length-set, more_images, all_written}
 use borrow.Author.Rules.{scaled_Fits}
 use Rattle.p3_field.proofs.lanes.LanesPackedField.scaled.Goals as goal
 

@@ -1,7 +1,4 @@
-use Rattle.std.proofs.Common.{rules, sym, ◌∙◌, length, map, refl, le_antisymm}
-use Rattle.p3_field.proofs.Lists.{place_inside}
-use Rattle.std.proofs.lemmas.List.{length-map, get_or-map, length-set}
-use Rattle.p3_field.proofs.LaneLoops.{written, all_written}
+use Rattle.p3_field.proofs.Lemmas.{rules, sym, ◌∙◌, length, map, refl, le_antisymm, place_inside, length-map, get_or-map, length-set, written, all_written}
 use borrow.Author.Rules.{scaled_Fits}
 use Rattle.p3_field.proofs.lanes.LanesPackedField.store.Goals as goal
 

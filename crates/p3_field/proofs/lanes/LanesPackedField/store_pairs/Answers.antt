@@ -1,7 +1,5 @@
-use Rattle.std.proofs.Common.{◌+◌, ◌*◌, ◌<◌, length, ap, rules, get_or, lt_of_lt_of_le, set, ◌∙◌}
-use Rattle.p3_field.proofs.Lists.{place_inside}
-use Rattle.std.proofs.lemmas.List.{get_or_default, length-set}
-use Rattle.p3_field.proofs.LaneLoops.{next_first, next_second, first_inside, second_inside}
+use Rattle.p3_field.proofs.Lemmas.{◌+◌, ◌*◌, ◌<◌, length, ap, rules, get_or, lt_of_lt_of_le, set, ◌∙◌, place_inside, get_or_default, length-set, next_first}
+use Rattle.p3_field.proofs.Lemmas.{next_second, first_inside, second_inside}
 use borrow.Author.Rules.{scaled_Fits, Below-set}
 use Rattle.p3_field.proofs.lanes.LanesPackedField.store_pairs.Goals as goal
 

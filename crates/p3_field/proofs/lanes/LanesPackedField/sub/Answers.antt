@@ -1,7 +1,4 @@
-use Rattle.std.proofs.Common.{rules, sym, ◌∙◌, refl, le_antisymm}
-use Rattle.std.proofs.lemmas.List.{length-set}
-use Rattle.p3_field.specs.Ring.{minus}
-use Rattle.p3_field.proofs.LaneLoops.{more_pairs, all_written, pairs, length-pairs}
+use Rattle.p3_field.proofs.Lemmas.{rules, sym, ◌∙◌, refl, le_antisymm, length-set, minus, more_pairs, all_written, pairs, length-pairs}
 use borrow.Author.Rules.{scaled_Fits}
 use Rattle.p3_field.proofs.lanes.LanesPackedField.sub.Goals as goal
 

@@ -1,5 +1,4 @@
-use Rattle.std.proofs.Common.{arith, ◌∙◌, lt_of_lt_of_le, ap, sym, ◌+◌, subst, ◌≤◌, le_antisymm}
-use Rattle.p3_field.proofs.PowerLists.{first_power, next_power, next_pushed}
+use Rattle.p3_field.proofs.Lemmas.{arith, ◌∙◌, lt_of_lt_of_le, ap, sym, ◌+◌, subst, ◌≤◌, le_antisymm, first_power, next_power, next_pushed}
 use Rattle.p3_field.proofs.power_iterator.Powers.collect_n.Goals as goal
 
 pub loop-i-init : goal.loop-i-init

@@ -1,5 +1,4 @@
-use Rattle.std.proofs.Common.{ℕ, ◌≡◌, ◌<◌, ◌≤◌, vec_len, vec_capacity, get_or}
-use Rattle.p3_field.specs.Ring.{power}
+use Rattle.p3_field.proofs.Lemmas.{ℕ, ◌≡◌, ◌<◌, ◌≤◌, vec_len, vec_capacity, get_or, power}
 use Rattle.p3_field.proofs.power_iterator.Powers.collect_n.Given as goal
 
 -- the first items are there, with room for the others, and the next one is at hand

@@ -1,6 +1,4 @@
-use Rattle.std.proofs.Common.{rules, arith, length, lt_of_lt_of_le}
-use Rattle.p3_field.proofs.LaneLoops.{next_written}
-use Rattle.p3_field.proofs.PowerLists.{first_power, next_power}
+use Rattle.p3_field.proofs.Lemmas.{rules, arith, length, lt_of_lt_of_le, next_written, first_power, next_power}
 use borrow.Author.Rules.{scaled_Fits}
 use Rattle.p3_field.proofs.power_iterator.Powers.fill.Goals as goal
 

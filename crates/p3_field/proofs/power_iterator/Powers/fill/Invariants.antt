@@ -1,5 +1,4 @@
-use Rattle.std.proofs.Common.{ℕ, ◌≡◌, ◌<◌, get_or}
-use Rattle.p3_field.specs.Ring.{power}
+use Rattle.p3_field.proofs.Lemmas.{ℕ, ◌≡◌, ◌<◌, get_or, power}
 use Rattle.p3_field.proofs.power_iterator.Powers.fill.Given as goal
 
 -- the first i items are there, and the next one is at hand

@@ -1,6 +1,4 @@
-use Rattle.std.proofs.Common.{◌<◌, ◌∙◌, subst, sym}
-use Rattle.p3_field.specs.FieldLaws.{count_law}
-use Rattle.p3_field.specs.Residues.{residue-eq}
+use Rattle.p3_field.proofs.Lemmas.{◌<◌, ◌∙◌, subst, sym, count_law, residue-eq}
 use Rattle.p3_field.proofs.residue31.Residue31CanonicalField.new.Goals as goal
 
 pub returns-then-number-MODULUS-clause-value : goal.returns-then-number-MODULUS-clause-value

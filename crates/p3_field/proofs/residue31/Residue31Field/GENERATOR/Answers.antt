@@ -1,5 +1,4 @@
-use Rattle.std.proofs.Common.{◌∙◌, ◌<◌}
-use Rattle.p3_field.proofs.Residues.{bounded-eq}
+use Rattle.p3_field.proofs.Lemmas.{◌∙◌, ◌<◌, bounded-eq}
 use Rattle.p3_field.proofs.residue31.Residue31Field.GENERATOR.Goals as goal
 
 pub returns : goal.returns

@@ -1,5 +1,4 @@
-use Rattle.std.proofs.Common.{◌∙◌, ap, ◌-◌, ◌<◌}
-use Rattle.p3_field.proofs.Residues.{bounded-eq}
+use Rattle.p3_field.proofs.Lemmas.{◌∙◌, ap, ◌-◌, ◌<◌, bounded-eq}
 use Rattle.p3_field.proofs.residue31.Residue31Field.NEG_ONE.Goals as goal
 
 pub returns : goal.returns

@@ -1,5 +1,4 @@
-use Rattle.std.proofs.Common.{refl, ◌<◌}
-use Rattle.p3_field.proofs.Residues.{bounded-eq}
+use Rattle.p3_field.proofs.Lemmas.{refl, ◌<◌, bounded-eq}
 use Rattle.p3_field.proofs.residue31.Residue31Field.TWO.Goals as goal
 
 pub returns : goal.returns

@@ -1,5 +1,4 @@
-use Rattle.std.proofs.Common.{◌∙◌, ◌%◌, ap}
-use Rattle.p3_field.proofs.Residues.{count-residue}
+use Rattle.p3_field.proofs.Lemmas.{◌∙◌, ◌%◌, ap, count-residue}
 use Rattle.p3_field.proofs.residue31.Residue31Field.from_usize.Goals as goal
 
 pub returns : goal.returns

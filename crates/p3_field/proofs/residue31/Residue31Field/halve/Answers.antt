@@ -1,6 +1,4 @@
-use Rattle.std.proofs.Common.{◌∙◌, ◌+◌, ◌/◌, ap}
-use Rattle.p3_field.specs.Residues.{residue-eq}
-use Rattle.p3_field.proofs.Residues.{even_half, odd_half}
+use Rattle.p3_field.proofs.Lemmas.{◌∙◌, ◌+◌, ◌/◌, ap, residue-eq, even_half, odd_half}
 use Rattle.p3_field.proofs.residue31.Residue31Field.halve.Goals as goal
 use Rattle.p3_field.proofs.residue31.Residue31Field.halve.Goals.{then-self-eq0, else-self-eq0}
 

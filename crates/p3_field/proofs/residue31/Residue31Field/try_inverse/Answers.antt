@@ -1,5 +1,4 @@
-use Rattle.std.proofs.Common.{◌∙◌, ◌%◌, ◌*◌, ◌<◌, refl, ap, subst, sym}
-use Rattle.p3_field.specs.Residues.{Residue, residue-eq}
+use Rattle.p3_field.proofs.Lemmas.{◌∙◌, ◌%◌, ◌*◌, ◌<◌, refl, ap, subst, sym, Residue, residue-eq}
 use Rattle.p3_field.proofs.residue31.Residue31Field.try_inverse.Goals as goal
 
 pub returns-clause-some : goal.returns-clause-some

@@ -1,5 +1,4 @@
-use Rattle.std.proofs.Common.{◌∙◌}
-use Rattle.p3_field.proofs.Residues.{product_within_62_bits}
+use Rattle.p3_field.proofs.Lemmas.{◌∙◌, product_within_62_bits}
 use Rattle.p3_field.proofs.residue31.Residue31Mul.mul.Goals as goal
 
 pub returns : goal.returns

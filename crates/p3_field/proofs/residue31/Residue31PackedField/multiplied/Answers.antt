@@ -1,5 +1,4 @@
-use Rattle.std.proofs.Common.{ap, [], ◌∷◌}
-use Rattle.p3_field.specs.Residues.{Residue, residue-eq}
+use Rattle.p3_field.proofs.Lemmas.{ap, [], ◌∷◌, Residue, residue-eq}
 use Rattle.p3_field.proofs.residue31.Residue31PackedField.multiplied.Goals as goal
 
 pub returns-clause-lanes : goal.returns-clause-lanes

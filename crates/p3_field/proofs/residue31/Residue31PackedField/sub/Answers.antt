@@ -1,6 +1,4 @@
-use Rattle.std.proofs.Common.{ap, [], ◌∷◌}
-use Rattle.p3_field.specs.FieldLaws.{difference_law}
-use Rattle.p3_field.specs.Residues.{Residue, residue-eq}
+use Rattle.p3_field.proofs.Lemmas.{ap, [], ◌∷◌, difference_law, Residue, residue-eq}
 use Rattle.p3_field.proofs.residue31.Residue31PackedField.sub.Goals as goal
 
 pub returns : goal.returns

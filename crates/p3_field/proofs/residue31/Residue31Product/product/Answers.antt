@@ -1,7 +1,4 @@
-use Rattle.std.proofs.Common.{refl}
-use Rattle.p3_field.specs.Fields.{field_ring}
-use Rattle.p3_field.specs.Residues.{residue-eq, residue_at}
-use Rattle.p3_field.proofs.Accumulated.{multiplied}
+use Rattle.p3_field.proofs.Lemmas.{refl, field_ring, residue-eq, residue_at, multiplied}
 use Rattle.p3_field.proofs.residue31.Residue31Product.product.Goals as goal
 
 pub returns : goal.returns

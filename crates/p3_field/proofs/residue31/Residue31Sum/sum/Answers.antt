@@ -1,7 +1,4 @@
-use Rattle.std.proofs.Common.{refl}
-use Rattle.p3_field.specs.Fields.{field_ring}
-use Rattle.p3_field.specs.Residues.{residue-eq, residue_at}
-use Rattle.p3_field.proofs.Accumulated.{added_up}
+use Rattle.p3_field.proofs.Lemmas.{refl, field_ring, residue-eq, residue_at, added_up}
 use Rattle.p3_field.proofs.residue31.Residue31Sum.sum.Goals as goal
 
 pub returns : goal.returns

@@ -1,6 +1,4 @@
-use Rattle.std.proofs.Common.{◌∙◌}
-use Rattle.std.proofs.lemmas.Simd.{pick_l_left, pick_l_whole}
-use Rattle.std.specs.List.{range_with_len}
+use Rattle.p3_field.proofs.Lemmas.{◌∙◌, pick_l_left, pick_l_whole, range_with_len}
 use Rattle.p3_field.proofs.residue31_x16.Residue31X16.halves.Goals as goal
 
 pub returns : goal.returns

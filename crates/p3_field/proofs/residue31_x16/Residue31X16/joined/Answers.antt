@@ -1,7 +1,4 @@
-use Rattle.std.proofs.Common.{◌+◌, ◌++◌, ap₂, length-append, refl, subst, sym, ◌∙◌}
-use Rattle.std.proofs.lemmas.Simd.{pick_l_whole}
-use Rattle.p3_field.specs.LaneNumbers.{AreBelow}
-use Rattle.p3_field.proofs.ResidueLanes.{each_joined}
+use Rattle.p3_field.proofs.Lemmas.{◌+◌, ◌++◌, ap₂, length-append, refl, subst, sym, ◌∙◌, pick_l_whole, AreBelow, each_joined}
 use Rattle.p3_field.proofs.residue31_x16.Residue31X16.joined.Goals as goal
 
 pub invariant_of-result : goal.invariant_of-result

@@ -1,5 +1,4 @@
-use Rattle.std.proofs.Common.{refl}
-use Rattle.p3_field.proofs.ResidueLanes.{joined_parts}
+use Rattle.p3_field.proofs.Lemmas.{refl, joined_parts}
 use Rattle.p3_field.proofs.residue31_x16.Residue31X16PackedField.load.Goals as goal
 
 pub returns : goal.returns

@@ -1,6 +1,4 @@
-use Rattle.std.proofs.Common.{◌<◌, arith, ◌*◌, ◌%◌, refl}
-use Rattle.std.proofs.Math.Nat.{mod-lt}
-use Rattle.p3_field.proofs.ResidueLanes.{lanes_of_each, each_packed}
+use Rattle.p3_field.proofs.Lemmas.{◌<◌, arith, ◌*◌, ◌%◌, refl, mod-lt, lanes_of_each, each_packed}
 use Rattle.p3_field.proofs.residue31_x16.Residue31X16PackedField.scaled.Goals as goal
 
 pub invariant_of-result : goal.invariant_of-result

@@ -1,5 +1,4 @@
-use Rattle.std.proofs.Common.{refl, sym}
-use Rattle.p3_field.proofs.ResidueLanes.{joined_parts}
+use Rattle.p3_field.proofs.Lemmas.{refl, sym, joined_parts}
 use Rattle.p3_field.proofs.residue31_x16.Residue31X16PackedField.store.Goals as goal
 
 pub returns : goal.returns

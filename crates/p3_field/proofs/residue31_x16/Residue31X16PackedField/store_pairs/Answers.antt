@@ -1,7 +1,5 @@
-use Rattle.std.proofs.Common.{ℕ, ◌+◌, ◌*◌, ◌<◌, arith, refl, sym, ◌∙◌}
+use Rattle.p3_field.proofs.Lemmas.{ℕ, ◌+◌, ◌*◌, ◌<◌, arith, refl, sym, ◌∙◌, Residue, joined_places}
 use Rattle.p3_field.specs.declared.residue31.Residue31.{Residue31}
-use Rattle.p3_field.specs.Residues.{Residue}
-use Rattle.p3_field.proofs.ResidueLanes.{joined_places}
 use Rattle.p3_field.proofs.residue31_x16.Residue31X16PackedField.store_pairs.Goals as goal
 
 pub returns-clause-first : goal.returns-clause-first

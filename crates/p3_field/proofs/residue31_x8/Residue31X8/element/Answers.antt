@@ -1,6 +1,4 @@
-use Rattle.std.proofs.Common.{◌<◌}
-use Rattle.p3_field.proofs.Lists.{place_inside}
-use Rattle.std.proofs.lemmas.Simd.{Each1-get_or}
+use Rattle.p3_field.proofs.Lemmas.{◌<◌, place_inside, Each1-get_or}
 use Rattle.p3_field.proofs.residue31_x8.Residue31X8.element.Goals as goal
 
 pub invariant_of-result : goal.invariant_of-result

@@ -1,5 +1,4 @@
-use Rattle.std.proofs.Common.{refl}
-use Rattle.p3_field.proofs.ResidueLanes.{same_numbers}
+use Rattle.p3_field.proofs.Lemmas.{refl, same_numbers}
 use Rattle.p3_field.proofs.residue31_x8.Residue31X8PackedField.broadcast.Goals as goal
 
 pub returns : goal.returns

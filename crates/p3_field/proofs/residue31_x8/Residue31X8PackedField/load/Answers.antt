@@ -1,6 +1,4 @@
-use Rattle.std.proofs.Common.{◌∙◌, sym}
-use Rattle.std.proofs.lemmas.Simd.{map-map}
-use Rattle.p3_field.proofs.ResidueLanes.{same_numbers, eight_elements}
+use Rattle.p3_field.proofs.Lemmas.{◌∙◌, sym, map-map, same_numbers, eight_elements}
 use Rattle.p3_field.proofs.residue31_x8.Residue31X8PackedField.load.Goals as goal
 
 pub returns : goal.returns

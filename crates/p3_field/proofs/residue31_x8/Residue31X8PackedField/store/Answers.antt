@@ -1,6 +1,4 @@
-use Rattle.std.proofs.Common.{refl, lit<}
-use Rattle.p3_field.proofs.Lists.{place_inside}
-use Rattle.p3_field.proofs.ResidueLanes.{eight_lanes}
+use Rattle.p3_field.proofs.Lemmas.{refl, lit<, place_inside, eight_lanes}
 use borrow.Author.Rules.{Below-set}
 use Rattle.p3_field.proofs.residue31_x8.Residue31X8PackedField.store.Goals as goal
 

@@ -1,7 +1,4 @@
-use Rattle.std.proofs.Common.{◌≡◌, sym, ◌∙◌, arith, get_or, refl, lit<}
-use Rattle.p3_field.specs.Residues.{residue-eq}
-use Rattle.p3_field.proofs.Lists.{place_inside}
-use Rattle.p3_field.proofs.ResidueLanes.{first_written, number_of_lane, second_written}
+use Rattle.p3_field.proofs.Lemmas.{◌≡◌, sym, ◌∙◌, arith, get_or, refl, lit<, residue-eq, place_inside, first_written, number_of_lane, second_written}
 use borrow.Author.Rules.{Below-set}
 use Rattle.p3_field.proofs.residue31_x8.Residue31X8PackedField.store_pairs.Goals as goal
 

@@ -1,7 +1,4 @@
-use Rattle.std.proofs.Common.{◌<◌, arith, ◌+◌, ◌-◌, ◌%◌, refl}
-use Rattle.std.proofs.Math.Nat.{mod-lt, add-mod-mod}
-use Rattle.p3_field.specs.Residues.{Residue}
-use Rattle.p3_field.proofs.ResidueLanes.{lanes_of_pairs, pairs_packed}
+use Rattle.p3_field.proofs.Lemmas.{◌<◌, arith, ◌+◌, ◌-◌, ◌%◌, refl, mod-lt, add-mod-mod, Residue, lanes_of_pairs, pairs_packed}
 use Rattle.p3_field.proofs.residue31_x8.Residue31X8PackedField.sub.Goals as goal
 
 pub invariant_of-result : goal.invariant_of-result

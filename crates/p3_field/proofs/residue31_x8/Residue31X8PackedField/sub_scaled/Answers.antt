@@ -1,9 +1,5 @@
-use Rattle.std.proofs.Common.{ℕ, ◌<◌, ◌∙◌, ap, map, arith, ◌+◌, ◌-◌, ◌*◌, ◌%◌, refl}
-use Rattle.std.proofs.Math.Nat.{mod-lt, add-mod-mod}
-use Rattle.std.specs.Simd.Lanes.{zip2}
-use Rattle.p3_field.specs.Residues.{Residue}
-use Rattle.p3_field.proofs.LaneArithmetic.{multiples_of_loose}
-use Rattle.p3_field.proofs.ResidueLanes.{lanes_of_pairs, lanes_of_each, pairs_packed, each_packed}
+use Rattle.p3_field.proofs.Lemmas.{ℕ, ◌<◌, ◌∙◌, ap, map, arith, ◌+◌, ◌-◌, ◌*◌, ◌%◌, refl, mod-lt, add-mod-mod, zip2, Residue, multiples_of_loose}
+use Rattle.p3_field.proofs.Lemmas.{lanes_of_pairs, lanes_of_each, pairs_packed, each_packed}
 use Rattle.p3_field.proofs.residue31_x8.Residue31X8PackedField.sub_scaled.Goals as goal
 
 pub invariant_of-result : goal.invariant_of-result
