@@ -119,6 +119,8 @@ parts ll lh hl hh f s l h a b c d f_is s_is l_is h_is all =
     let high : h ≡ hh + f / 4294967296 + s / 4294967296 = omega (arith, h_is, first_small, second_small, d) in
     (omega (arith, first, second, low, high), omega (arith, low))
 
+-- The two words that a lane's operations make of x and t are those of the product x * t: each of the four products of
+-- halves fits a word, they add up to x * t by their places, and `parts` gives the words with the carries between them.
 product_of_words : (x t : ℕ) → x < 18446744073709551616 → t < 18446744073709551616
     → (low_word x t + high_word x t * 18446744073709551616 ≡ x * t) × (low_word x t < 18446744073709551616)
 product_of_words x t a b =

@@ -127,6 +127,9 @@ exchange-requires-clause-second g c =
     (omega (arith, c.reverse_bits_len-far_last.ensures, rev-lt c.args.outer c.loop-first.first, one_shl c.args.outer 64 (omega arith))) in
     omega (arith, row_within c.chunk_number-far.result (2 ^ c.args.bits) c.args.width (length c.args.values.now) below (sym c.requires.size))
 
+-- One more chunk in the order of tiles. Where its partner comes after it, the two are exchanged, and both are where
+-- they belong (`rows_half_reversed_more`). Else it is its own partner or was exchanged with it before, and it stays
+-- (`rows_half_reversed_kept`).
 pub loop-last-preserved : goal.loop-last-preserved
 loop-last-preserved g c =
     let n = c.args.bits in

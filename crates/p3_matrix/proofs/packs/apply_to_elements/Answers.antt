@@ -3,6 +3,9 @@ use Rattle.std.proofs.lemmas.List.{length-map}
 use Rattle.p3_matrix.proofs.RowsByPacks.{of_one_lane, element_stays, element_done, elements_done, more_products}
 use Rattle.p3_matrix.proofs.packs.apply_to_elements.Goals as goal
 
+-- One more element of both rows. What is read at i is what the rows held there at first (`element_stays`), and the
+-- butterfly of one lane makes the near and the far value of the two (`of_one_lane`). So the rows are done up to i + 1
+-- (`element_done`).
 pub loop-i-preserved : goal.loop-i-preserved
 loop-i-preserved g c =
     let f = g.F.Valued in

@@ -5,6 +5,9 @@ use Rattle.p3_matrix.proofs.RowsByPacks.{pack_done, pack_fits, pack_within, loop
 use borrow.Author.Rules.{scaled_Fits}
 use Rattle.p3_matrix.proofs.packs.apply_to_packs_oop.Goals as goal
 
+-- One more pack of both outputs. What is loaded are the values of the sources at the pack's places, and the butterfly
+-- takes them lane by lane. So what is stored are the outputs at these places, which are done up to the pack's end
+-- (`pack_done`).
 pub loop-at-preserved : goal.loop-at-preserved
 loop-at-preserved g c =
     let f = g.F.Valued in

@@ -7,6 +7,9 @@ use Rattle.p3_matrix.proofs.Lanes.{length-by_lanes}
 use Rattle.p3_matrix.proofs.RowsByPacks.{element_stays, element_done, elements_done, products_long}
 use Rattle.p3_matrix.proofs.packs.dit_on_elements.Goals as goal
 
+-- One more element of both rows. What is read at i is what the rows held there at first (`element_stays`), and the
+-- multiple is the product of the second row and the twiddle at i. So sum and difference are those at place i, and the
+-- rows are done up to i + 1 (`element_done`).
 pub loop-i-preserved : goal.loop-i-preserved
 loop-i-preserved g c =
     let f = g.F.Valued in

@@ -6,6 +6,9 @@ use Rattle.p3_matrix.proofs.Lanes.{take-by_lanes, drop-by_lanes}
 use Rattle.p3_matrix.proofs.RowsByPacks.{next_pack, pack_done, pack_fits, products_long, rows_done_all, pack_within, pack_sizes}
 use Rattle.p3_matrix.proofs.packs.dit_on_packs.Goals as goal
 
+-- One more pack of both rows. What is in it is still what the rows held at first (`next_pack`), and the multiples are
+-- the products of the same places of the second row and of the twiddles. So the pack's sums and differences are those of
+-- the whole rows at its places, and the rows are done up to its end (`pack_done`).
 pub loop-at-preserved : goal.loop-at-preserved
 loop-at-preserved g c =
     let f = g.F.Valued in
