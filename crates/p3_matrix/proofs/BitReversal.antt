@@ -1,9 +1,6 @@
 -- Bit reversal: by the last digit, by the first, in blocks of digits; its bound, and that it undoes itself.
-use Rattle.std.proofs.Common.{◌≡◌, ℕ, zero, suc, ◌+◌, ◌*◌, ◌<◌, ◌^◌, ◌/◌, ◌%◌, refl, sym, ap, ap₂, ◌∙◌, arith, ◌⊎◌, inl, inr}
-use Rattle.std.proofs.lemmas.Nat.{pow-add}
-use Rattle.p3_field.proofs.Parity.{even_or_odd}
-use Rattle.p3_matrix.specs.BitOrder.{rev, bit_reversal}
-use Rattle.p3_matrix.specs.Matrix.{Matrix, Same}
+use Rattle.p3_matrix.proofs.Names.{◌≡◌, ℕ, zero, suc, ◌+◌, ◌*◌, ◌<◌, ◌^◌, ◌/◌, ◌%◌, refl, sym, ap, ap₂, ◌∙◌, arith, ◌⊎◌, inl, inr, pow-add, even_or_odd, rev}
+use Rattle.p3_matrix.proofs.Names.{bit_reversal, Matrix, Same}
 
 pub rev-zero : (k : ℕ) → rev 0 k ≡ 0
 unfolding rev

@@ -1,15 +1,9 @@
 -- Blocks of rows that are lent one after another.
-use Rattle.std.proofs.Common.{◌≡◌, ◌≢◌, ℕ, ◌+◌, ◌*◌, ◌-◌, ◌/◌, ◌%◌, ◌<◌, ◌≤◌, length, get_or, take, drop, Result, Ok, sym, ap, ◌∙◌, subst, arith, rules}
-use Rattle.std.specs.Prelude.{⊤}
-use Rattle.std.proofs.Math.Nat.{add-mul, suc-mul, mul-le-mul_right, mul-div_cancel, mul-mod_left, div-mul-le_self}
-use Rattle.std.proofs.lemmas.Fn.{FoldsTo-push}
-use Rattle.std.proofs.lemmas.List.{places}
-use Rattle.std.proofs.lemmas.List.FromFn.{map-range_with_len_more, length-map-range_with_len, get_or-map-range_with_len}
-use Rattle.std.proofs.lemmas.List.Sorted.{IsPermutation-refl}
-use Rattle.std.proofs.lemmas.Nat.{mul-add-lt}
-use Rattle.p3_matrix.specs.Blocks.{AreBlocksOf, IsBlockOf, IsPublished, IsRefused, Run, RunToRefusal, block, first_blocks}
-use Rattle.p3_matrix.specs.Matrix.{Matrix, Same, matrix, image}
-use Rattle.p3_matrix.specs.RowMajor.{RowMajor, IsRowMajor, height, rows_from}
+use Rattle.p3_matrix.proofs.Names.{◌≡◌, ◌≢◌, ℕ, ◌+◌, ◌*◌, ◌-◌, ◌/◌, ◌%◌, ◌<◌, ◌≤◌, length, get_or, take, drop, Result, Ok, sym, ap, ◌∙◌, subst, arith, rules, ⊤}
+use Rattle.p3_matrix.proofs.Names.{add-mul, suc-mul, mul-le-mul_right, mul-div_cancel, mul-mod_left, div-mul-le_self, FoldsTo-push, places}
+use Rattle.p3_matrix.proofs.Names.{map-range_with_len_more, length-map-range_with_len, get_or-map-range_with_len, IsPermutation-refl, mul-add-lt, AreBlocksOf}
+use Rattle.p3_matrix.proofs.Names.{IsBlockOf, IsPublished, IsRefused, Run, RunToRefusal, block, first_blocks, Matrix, Same, matrix, image, RowMajor, IsRowMajor}
+use Rattle.p3_matrix.proofs.Names.{height, rows_from}
 use Rattle.p3_matrix.proofs.RowMajor.{rows_within}
 
 -- block q of those of b rows ends within the h rows

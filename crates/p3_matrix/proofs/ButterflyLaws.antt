@@ -1,8 +1,6 @@
 -- What the formulas of butterflies have to do with one another, by the laws of a ring.
-use Rattle.std.proofs.Common.{◌≡◌, sym, ap, ◌∙◌}
-use Rattle.p3_field.specs.Ring.{Ring, minus}
+use Rattle.p3_matrix.proofs.Names.{◌≡◌, sym, ap, ◌∙◌, Ring, minus, scaled_dit_near, scaled_dit_far}
 use Rattle.p3_field.proofs.Rings.{add-mul, neg-mul}
-use Rattle.p3_matrix.specs.Butterflies.{scaled_dit_near, scaled_dit_far}
 
 module _ {A : Type 0} (r : Ring A) where
   -- a scale goes into the twiddle

@@ -1,7 +1,5 @@
 -- The reverse of the next number: the carry runs down from the highest digit, past the digits that are one.
-use Rattle.std.proofs.Common.{◌≡◌, ℕ, zero, suc, ◌+◌, ◌-◌, ◌*◌, ◌/◌, ◌<◌, ◌≤◌, ◌^◌, ◌⊎◌, inl, inr, refl, ap, ◌∙◌, arith}
-use Rattle.p3_field.proofs.Parity.{even_or_odd}
-use Rattle.p3_matrix.specs.BitOrder.{rev}
+use Rattle.p3_matrix.proofs.Names.{◌≡◌, ℕ, zero, suc, ◌+◌, ◌-◌, ◌*◌, ◌/◌, ◌<◌, ◌≤◌, ◌^◌, ◌⊎◌, inl, inr, refl, ap, ◌∙◌, arith, even_or_odd, rev}
 use Rattle.p3_matrix.proofs.BitReversal.{rev-even, rev-odd, rev-lt}
 
 -- what is left of the reverse of i below the carry: the reverse of some j of m digits, and the next of j gives the next of i

@@ -1,27 +1,16 @@
 -- What a caller knows of its consumer after an extension with blocks: that one which never refuses was not refused with, and what those of this crate hold.
-use Rattle.std.proofs.Common.{◌≡◌, ℕ, zero, suc, ◌+◌, ◌*◌, ◌-◌, ◌/◌, ◌%◌, ◌<◌, ◌≤◌, ◌⊎◌, inl, inr, List, [], ◌∷◌, ◌++◌}
-use Rattle.std.proofs.Common.{length, take, drop, map, true, false, Result, Ok, Err, refl, sym, ap, ap₂, ◌∙◌, subst}
-use Rattle.std.proofs.Common.{arith, rules, add-one, get_or, ⊎_elim}
-use Rattle.std.specs.List.{All, Contains, list_any, sum_by}
-use Rattle.std.specs.Prelude.{⊤}
-use Rattle.std.proofs.Math.Dec.{eqb}
-use Rattle.std.proofs.lemmas.Bool.{cases_lt}
+use Rattle.p3_matrix.proofs.Names.{◌≡◌, ℕ, zero, suc, ◌+◌, ◌*◌, ◌-◌, ◌/◌, ◌%◌, ◌<◌, ◌≤◌, ◌⊎◌, inl, inr, List, [], ◌∷◌, ◌++◌, length, take, drop, map, true}
+use Rattle.p3_matrix.proofs.Names.{false, Result, Ok, Err, refl, sym, ap, ap₂, ◌∙◌, subst, arith, rules, add-one, get_or, ⊎_elim, All, Contains, list_any}
+use Rattle.p3_matrix.proofs.Names.{sum_by, ⊤, eqb, cases_lt, add-mul, mul-le-mul_right, div-lt_iff_lt-mul, div-mul-le_self, mul-div_cancel, mul_assoc, suc-mul}
+use Rattle.p3_matrix.proofs.Names.{append-nil, append_assoc, ext_get_or, get_or-map, get_or_push, length-append, length-map, places, Contains-get_or}
+use Rattle.p3_matrix.proofs.Names.{Any-from_list_any, get_or-map-range_with_len, length-map-range_with_len, sum_by-map-range_with_len_more, sum_by-cons}
+use Rattle.p3_matrix.proofs.Names.{IsDistinct-from_AllPairs, length-le_from_distinct_below, div-add-mod', div_below, mod_below, AreBlocksOf, IsBlockOf}
+use Rattle.p3_matrix.proofs.Names.{IsPartition, IsPublished, IsRefused, Run, block, first_blocks, Matrix, IsRowMajor, RowMajor, height, rows_from}
+use Rattle.p3_matrix.proofs.Names.{with_elements}
 use Rattle.std.proofs.lemmas.Bool.Decides.{Decides-eqb, eqb_tells}
-use Rattle.std.proofs.Math.Nat.{add-mul, mul-le-mul_right, div-lt_iff_lt-mul, div-mul-le_self, div-zero, mod-zero, mul-div_cancel, mul_assoc, suc-mul}
-use Rattle.std.proofs.lemmas.List.{append-nil, append_assoc, ext_get_or, get_or-map, get_or_push, length-append, length-map, places}
-use Rattle.std.proofs.lemmas.List.Elements.{Contains-get_or}
-use Rattle.std.proofs.lemmas.List.Folds.{Any-from_list_any}
-use Rattle.std.proofs.lemmas.List.FromFn.{get_or-map-range_with_len, length-map-range_with_len, sum_by-map-range_with_len_more}
+use Rattle.std.proofs.Math.Nat.{div-zero, mod-zero}
 use Rattle.std.proofs.lemmas.List.Sorted.{All-permutation, Contains-permutation, length_permutation, sum_by-IsPermutation}
-use Rattle.std.proofs.lemmas.List.Sums.{sum_by-cons}
-use Rattle.std.proofs.lemmas.Map.Made.{IsDistinct-from_AllPairs}
-use Rattle.std.proofs.lemmas.Map.Steps.{length-le_from_distinct_below}
-use Rattle.std.proofs.lemmas.Nat.{div-add-mod', div_below, mod_below}
-use Rattle.p3_matrix.specs.Blocks.{AreBlocksOf, IsBlockOf, IsPartition, IsPublished, IsRefused, Run, block, first_blocks}
 use Rattle.p3_matrix.specs.Consumers.{IsCopied, IsCounted, IsRecorded, Limited, Recording}
-use Rattle.p3_matrix.specs.Matrix.{Matrix}
-use Rattle.p3_matrix.specs.RowMajor.{IsRowMajor, RowMajor, height, rows_from}
-use Rattle.p3_matrix.specs.Writes.{with_elements}
 use Rattle.p3_matrix.proofs.BlockRuns.{block_within}
 use Rattle.p3_matrix.proofs.RowMajor.{rows_within}
 use Rattle.p3_matrix.specs.declared.blocks.BlockRefused.{BlockRefused}

@@ -1,12 +1,6 @@
 -- Putting places into bit reversed order pair by pair: what stands after the first t places.
-use Rattle.std.proofs.Common.{◌≡◌, ℕ, ◌+◌, ◌*◌, ◌/◌, ◌<◌, ◌≤◌, ◌^◌, ◌⊎◌, inl, inr, ⊎_elim, List, length, get_or, refl, sym, ap, ◌∙◌, arith}
-use Rattle.std.proofs.lemmas.Bool.{cases_lt, cases_eq}
-use Rattle.std.proofs.lemmas.List.Edits.{Swapped}
-use Rattle.p3_matrix.specs.BitOrder.{rev, bit_reversal}
-use Rattle.p3_matrix.specs.Exchange.{IsExchange}
-use Rattle.p3_matrix.specs.Matrix.{matrix, Same}
-use Rattle.p3_matrix.specs.RowMajor.{RowMajor, height}
-use Rattle.p3_matrix.specs.Writes.{with_values}
+use Rattle.p3_matrix.proofs.Names.{◌≡◌, ℕ, ◌+◌, ◌*◌, ◌/◌, ◌<◌, ◌≤◌, ◌^◌, ◌⊎◌, inl, inr, ⊎_elim, List, length, get_or, refl, sym, ap, ◌∙◌, arith, cases_lt}
+use Rattle.p3_matrix.proofs.Names.{cases_eq, Swapped, rev, bit_reversal, IsExchange, matrix, Same, RowMajor, height, with_values}
 use Rattle.p3_matrix.proofs.BitReversal.{rev-lt, rev-rev}
 use Rattle.p3_matrix.proofs.RowExchanges.{swapped_column, all_written}
 

@@ -1,7 +1,5 @@
 -- Operations by lanes: on rows in two parts, with a function before or after, and where they read one side alone.
-use Rattle.std.proofs.Common.{◌≡◌, ℕ, zero, suc, List, [], ◌∷◌, ◌++◌, length, map, take, drop, refl, sym, ap, ap₂, ◌∙◌, arith}
-use Rattle.std.proofs.lemmas.List.{length-map}
-use Rattle.p3_field.specs.Lanes.{by_lanes}
+use Rattle.p3_matrix.proofs.Names.{◌≡◌, ℕ, zero, suc, List, [], ◌∷◌, ◌++◌, length, map, take, drop, refl, sym, ap, ap₂, ◌∙◌, arith, length-map, by_lanes}
 
 module _ {A : Type 0} where
   pub by_lanes-append : (op : A → A → A) (us bs xs ys : List A) → length us ≡ length bs

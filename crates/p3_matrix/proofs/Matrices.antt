@@ -1,8 +1,6 @@
 -- Matrices that are one, and that a matrix by index and the list of its rows say the same.
-use Rattle.std.proofs.Common.{◌≡◌, ℕ, zero, suc, ◌<◌, refl, sym, ap, ap₂, ◌∙◌, [], ◌∷◌, ◌++◌, map, arith, add-one}
-use Rattle.std.specs.List.{range_with_len}
-use Rattle.std.proofs.lemmas.List.FromFn.{map-range_with_len_more}
-use Rattle.p3_matrix.specs.Matrix.{Matrix, Same, image, row_of, list_of_rows}
+use Rattle.p3_matrix.proofs.Names.{◌≡◌, ℕ, zero, suc, ◌<◌, refl, sym, ap, ap₂, ◌∙◌, [], ◌∷◌, ◌++◌, map, arith, add-one, range_with_len, map-range_with_len_more}
+use Rattle.p3_matrix.proofs.Names.{Matrix, Same, image, row_of, list_of_rows}
 
 -- two lists by index are equal where their entries are
 pub list_same : {X : Type 0} (f g : ℕ → X) (n : ℕ) → ((i : ℕ) → i < n → f i ≡ g i) → map f (range_with_len 0 n) ≡ map g (range_with_len 0 n)

@@ -1,13 +1,9 @@
 -- Blocks that are kept one after another in two lists.
-use Rattle.std.proofs.Common.{◌≡◌, ℕ, ◌+◌, ◌-◌, ◌≤◌, List, [], ◌∷◌, ◌++◌, length, map, drop, slice_range, refl, sym, ap, ap₂, ◌∙◌, arith, subst}
-use Rattle.std.specs.List.{All}
-use Rattle.std.proofs.lemmas.List.{map-append, take-append-le, length-append}
+use Rattle.p3_matrix.proofs.Names.{◌≡◌, ℕ, ◌+◌, ◌-◌, ◌≤◌, List, [], ◌∷◌, ◌++◌, length, map, drop, slice_range, refl, sym, ap, ap₂, ◌∙◌, arith, subst, All}
+use Rattle.p3_matrix.proofs.Names.{map-append, take-append-le, length-append, between_is, drop-append_seam, take-length, RowMajor, IsRowMajor}
 use Rattle.std.proofs.lemmas.List.Elements.{All-head, All-tail, All-push, All-weaker}
-use Rattle.std.proofs.lemmas.Slice.{between_is}
-use Rattle.std.proofs.Math.Seq.{drop-append_seam, take-length}
 use Rattle.p3_matrix.specs.Consumers.{IsPlaceIn, block_at}
 use Rattle.p3_matrix.specs.declared.blocks.Place.{Place}
-use Rattle.p3_matrix.specs.RowMajor.{RowMajor, IsRowMajor}
 
 -- a part of the front of a list
 pub part_of_front : {T : Type 0} (xs ys : List T) (a b : ℕ) → a ≤ b → b ≤ length xs → slice_range (xs ++ ys) a b ≡ slice_range xs a b

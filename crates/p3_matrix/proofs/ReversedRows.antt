@@ -1,12 +1,7 @@
 -- Stored matrices whose rows lie in bit reversed order: as lists of entries and by index.
-use Rattle.std.proofs.Common.{◌≡◌, ℕ, zero, suc, ◌+◌, ◌*◌, ◌<◌, ◌≤◌, ◌^◌, ◌/◌, ◌%◌, ◌++◌, List, length, get_or}
-use Rattle.std.proofs.Common.{slice_range, sym, ap, ap₂, ◌∙◌, refl, arith, rules}
-use Rattle.std.specs.List.{flat_map, range_with_len}
-use Rattle.std.proofs.lemmas.List.{places, same_lists, get_or-append-add}
-use Rattle.std.proofs.lemmas.Nat.{div-add-mod', div_below, mod_below}
-use Rattle.p3_matrix.specs.BitOrder.{rev, bit_reversal, reversed_rows}
-use Rattle.p3_matrix.specs.Matrix.{matrix, Same}
-use Rattle.p3_matrix.specs.RowMajor.{RowMajor, HasShapeOf, IsRowMajor, height, row}
+use Rattle.p3_matrix.proofs.Names.{◌≡◌, ℕ, zero, suc, ◌+◌, ◌*◌, ◌<◌, ◌≤◌, ◌^◌, ◌/◌, ◌%◌, ◌++◌, List, length, get_or, slice_range, sym, ap, ap₂, ◌∙◌, refl}
+use Rattle.p3_matrix.proofs.Names.{arith, rules, flat_map, range_with_len, places, same_lists, get_or-append-add, div-add-mod', div_below, mod_below, rev}
+use Rattle.p3_matrix.proofs.Names.{bit_reversal, reversed_rows, matrix, Same, RowMajor, HasShapeOf, IsRowMajor, height, row}
 use Rattle.p3_matrix.proofs.BitReversal.{rev-lt, reversed_back}
 use Rattle.p3_matrix.proofs.RowMajor.{row_within}
 use Rattle.p3_matrix.proofs.TwoPowers.{log_same}

@@ -1,16 +1,8 @@
 -- Rows that change places in the list of a matrix's entries.
-use Rattle.std.proofs.Common.{◌≡◌, ℕ, ◌+◌, ◌-◌, ◌*◌, ◌/◌, ◌<◌, ◌≤◌, ◌⊎◌, inl, inr, ⊎_elim, ◌==◌, if◌then◌else◌, List}
-use Rattle.std.proofs.Common.{◌++◌, length, get_or, take, drop, refl, sym, ap, ◌∙◌, arith, append-nil, rules}
-use Rattle.std.proofs.Math.ListN.{drop_of_length-le}
-use Rattle.std.proofs.Math.Seq.{take-length}
-use Rattle.std.proofs.lemmas.Bool.{cases_lt, cases_eq, eq-eqb, ne_eqb}
-use Rattle.std.proofs.lemmas.List.Edits.{Swapped}
-use Rattle.p3_matrix.specs.RowMajor.{RowMajor}
-use Rattle.p3_matrix.specs.Matrix.{matrix, row_exchange, Same}
-use Rattle.p3_matrix.specs.Exchange.{IsExchange}
-use Rattle.p3_matrix.specs.Writes.{with_values}
+use Rattle.p3_matrix.proofs.Names.{◌≡◌, ℕ, ◌+◌, ◌-◌, ◌*◌, ◌/◌, ◌<◌, ◌≤◌, ◌⊎◌, inl, inr, ⊎_elim, ◌==◌, if◌then◌else◌, List, ◌++◌, length, get_or, take, drop}
+use Rattle.p3_matrix.proofs.Names.{refl, sym, ap, ◌∙◌, arith, append-nil, rules, drop_of_length-le, take-length, cases_lt, cases_eq, eq-eqb, ne_eqb, Swapped}
+use Rattle.p3_matrix.proofs.Names.{RowMajor, matrix, row_exchange, Same, IsExchange, with_values, places, length-append}
 use Rattle.p3_matrix.proofs.RowMajor.{row_within}
-use Rattle.std.proofs.lemmas.List.{places, length-append}
 
 -- as many entries written over all of a matrix replace them
 pub all_written : {T : Type 0} (xs ys : List T) → length ys ≡ length xs → take (length xs) (ys ++ drop (length ys) xs) ≡ ys

@@ -1,12 +1,7 @@
 -- Stored matrices: entries that fill whole rows, that by index and as stored a matrix has the same rows, and that entries written anew keep the shape.
-use Rattle.std.proofs.Common.{◌≡◌, ℕ, ◌+◌, ◌*◌, ◌/◌, ◌-◌, ◌<◌, ◌≤◌, List, ◌++◌, length, get_or, map, take, drop}
-use Rattle.std.proofs.Common.{slice_range, refl, sym, ap, ap₂, ◌∙◌, arith, rules, min}
-use Rattle.std.specs.List.{range_with_len}
-use Rattle.std.proofs.lemmas.List.{places}
-use Rattle.std.proofs.lemmas.List.FromFn.{fill_by_all}
-use Rattle.std.proofs.Math.Nat.{add-mul, mul-le-mul_right, mul-div_cancel}
-use Rattle.p3_matrix.specs.RowMajor.{RowMajor, HasShapeOf, IsRowMajor, height, row, rows}
-use Rattle.p3_matrix.specs.Matrix.{matrix, row_of, list_of_rows}
+use Rattle.p3_matrix.proofs.Names.{◌≡◌, ℕ, ◌+◌, ◌*◌, ◌/◌, ◌-◌, ◌<◌, ◌≤◌, List, ◌++◌, length, get_or, map, take, drop, slice_range, refl, sym, ap, ap₂, ◌∙◌}
+use Rattle.p3_matrix.proofs.Names.{arith, rules, min, range_with_len, places, fill_by_all, add-mul, mul-le-mul_right, mul-div_cancel, RowMajor, HasShapeOf}
+use Rattle.p3_matrix.proofs.Names.{IsRowMajor, height, row, rows, matrix, row_of, list_of_rows}
 use Rattle.p3_matrix.proofs.Matrices.{list_same}
 
 -- h rows of w entries are h whole rows

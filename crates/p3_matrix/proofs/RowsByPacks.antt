@@ -1,10 +1,8 @@
 -- Rows that are worked through pack by pack: what they hold when the places below i are done.
-use Rattle.std.proofs.Common.{◌≡◌, ℕ, zero, suc, ◌+◌, ◌*◌, ◌<◌, ◌≤◌, List, [], ◌∷◌, ◌++◌, length, take, drop, map}
-use Rattle.std.proofs.Common.{get_or, set, sym, ap, ap₂, ◌∙◌, arith, append_assoc, append-nil, ◌-◌, refl}
-use Rattle.std.proofs.Math.Seq.{take-add, take-length, drop-length}
-use Rattle.std.proofs.lemmas.List.{take_at, drop_at, take-map, drop-map, map-append, drop-drop, length-map, length-take-le, length-append}
-use Rattle.p3_field.specs.Lanes.{by_lanes}
-use Rattle.p3_field.proofs.LaneLoops.{until, still, written, all_written, get_or-by_lanes}
+use Rattle.p3_matrix.proofs.Names.{◌≡◌, ℕ, zero, suc, ◌+◌, ◌*◌, ◌<◌, ◌≤◌, List, [], ◌∷◌, ◌++◌, length, take, drop, map, get_or, set, sym, ap, ap₂, ◌∙◌, arith}
+use Rattle.p3_matrix.proofs.Names.{append_assoc, append-nil, ◌-◌, refl, take-add, take-length, drop-length, take_at, drop_at, take-map, drop-map, map-append}
+use Rattle.p3_matrix.proofs.Names.{drop-drop, length-map, length-take-le, length-append, by_lanes, until, still, written, get_or-by_lanes}
+use Rattle.p3_field.proofs.LaneLoops.{all_written}
 use Rattle.p3_matrix.proofs.Lanes.{by_lanes-append, length-by_lanes}
 
 module _ {E : Type 0} (op : E → E → E) where

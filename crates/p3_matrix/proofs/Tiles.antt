@@ -1,14 +1,10 @@
 -- Places by tiles: the digits of a place are k first ones, m of its tile and k last ones.
-use Rattle.std.proofs.Common.{◌≡◌, ℕ, ◌+◌, ◌-◌, ◌*◌, ◌/◌, ◌%◌, ◌<◌, ◌≤◌, ◌^◌, ◌⊎◌, inl, inr, ⊎_elim, refl, sym, ap, ap₂}
-use Rattle.std.proofs.Common.{◌∙◌, arith, Fits, le_of_lt, lt_of_lt_of_le}
-use Rattle.std.proofs.lemmas.Bool.{cases_lt}
-use Rattle.std.proofs.lemmas.Nat.{pow-add, pow_pos, pow_below, div-mul-add, mod-mul-add, div-add-mod', div_below, mod_below}
-use Rattle.p3_matrix.specs.BitOrder.{rev}
+use Rattle.p3_matrix.proofs.Names.{◌≡◌, ℕ, ◌+◌, ◌-◌, ◌*◌, ◌/◌, ◌%◌, ◌<◌, ◌≤◌, ◌^◌, ◌⊎◌, inl, inr, ⊎_elim, refl, sym, ap, ap₂, ◌∙◌, arith, Fits, le_of_lt}
+use Rattle.p3_matrix.proofs.Names.{lt_of_lt_of_le, cases_lt, pow-add, pow_pos, pow_below, div-mul-add, mod-mul-add, div-add-mod', div_below, mod_below, rev}
+use Rattle.p3_matrix.proofs.Names.{w64, mul-le-mul_right, add-mul}
 use Rattle.p3_matrix.proofs.BitReversal.{rev-lt, rev-rev, rev-block}
 use Rattle.p3_matrix.proofs.RowMajor.{row_within}
 use Rattle.p3_matrix.proofs.HalfReversed.{AreNumbers}
-use mir.Syntax.{w64}
-use Rattle.std.proofs.Math.Nat.{mul-le-mul_right, add-mul}
 
 -- a number of two parts is below the next multiple
 pub part_lt : (a b w r : ℕ) → a < b → r < w → a * w + r < b * w

@@ -1,8 +1,7 @@
 -- Powers of two: their order is that of their logarithms, and numbers of entries in so many rows.
-use Rattle.std.proofs.Common.{◌≡◌, ℕ, ◌<◌, ◌≤◌, ◌^◌, suc, ◌+◌, ◌*◌, ap, add-one, arith, ⊎_elim, ◌⊎◌, inl, inr, lit≤, sym, ◌∙◌}
-use Rattle.std.proofs.lemmas.Bool.{cases_lt}
-use Rattle.std.proofs.lemmas.Nat.{pow_below, pow_pos}
-use Rattle.std.proofs.Math.Nat.{mul-le-mul_left, mul-le-mul_right, pow-le-pow_right, two-pow-succ}
+use Rattle.p3_matrix.proofs.Names.{◌≡◌, ℕ, ◌<◌, ◌≤◌, ◌^◌, suc, ◌+◌, ◌*◌, ap, add-one, arith, ⊎_elim, ◌⊎◌, inl, inr, lit≤, sym, ◌∙◌, cases_lt, pow_below}
+use Rattle.p3_matrix.proofs.Names.{pow_pos, mul-le-mul_left, mul-le-mul_right}
+use Rattle.std.proofs.Math.Nat.{pow-le-pow_right, two-pow-succ}
 
 -- a smaller power has the smaller logarithm
 pub log_lt : (j k : ℕ) → 2 ^ j < 2 ^ k → j < k

@@ -1,12 +1,9 @@
 -- Polynomials by index, which proofs use since an index can be shifted, doubled or reversed under a λ: that they are those by
 -- list, and what becomes of a value when the coefficients are cut, added, scaled or padded.
-use Rattle.std.proofs.Common.{◌≡◌, ℕ, zero, suc, ◌+◌, ◌*◌, ◌-◌, ◌<◌, ◌≤◌, refl, sym, ap, ap₂, ◌∙◌, List, [], ◌∷◌, length, get_or, map, arith, suc-add, zero-add}
-use Rattle.std.specs.List.{range_with_len}
-use Rattle.std.proofs.lemmas.List.FromFn.{length-map-range_with_len, get_or-map-range_with_len}
-use Rattle.p3_field.specs.Ring.{Ring, power}
+use Rattle.p3_matrix.proofs.Names.{◌≡◌, ℕ, zero, suc, ◌+◌, ◌*◌, ◌-◌, ◌<◌, ◌≤◌, refl, sym, ap, ap₂, ◌∙◌, List, [], ◌∷◌, length, get_or, map, arith, suc-add}
+use Rattle.p3_matrix.proofs.Names.{zero-add, range_with_len, length-map-range_with_len, get_or-map-range_with_len, Ring, power, solve, va, vb, vc, vd, ve}
+use Rattle.p3_matrix.proofs.Names.{zeroₑ, ◌⊞◌, ◌⊠◌, ⊝, sum, value, poly}
 use Rattle.p3_field.proofs.Rings
-use Rattle.p3_field.proofs.RingSolver.{solve, va, vb, vc, vd, ve, zeroₑ, ◌⊞◌, ◌⊠◌, ⊝}
-use Rattle.p3_matrix.specs.Polynomials.{sum, value, poly}
 
 module _ {A : Type 0} (R : Ring A) where
   open R use {add as ◌⊕◌, mul as ◌⊗◌, neg, zero as 𝟘, one as 𝟙}

@@ -1,10 +1,7 @@
 -- Values of polynomials that are made of others: sums of multiples, columns that are chosen, rows of zeros, and another coset.
-use Rattle.std.proofs.Common.{◌≡◌, ℕ, ◌+◌, ◌-◌, ◌<◌, ◌≤◌, cond, lt-ltb, le-ltb, refl, sym, ap, ap₂, ◌∙◌, arith}
-use Rattle.p3_field.specs.Ring.{Ring}
-use Rattle.p3_matrix.specs.Matrix.{Matrix}
+use Rattle.p3_matrix.proofs.Names.{◌≡◌, ℕ, ◌+◌, ◌-◌, ◌<◌, ◌≤◌, cond, lt-ltb, le-ltb, refl, sym, ap, ap₂, ◌∙◌, arith, Ring, Matrix, point, IsValues, coset_shift}
+use Rattle.p3_matrix.proofs.Names.{poly}
 use Rattle.p3_matrix.specs.Combinations.{alone, chosen, combination, lengthened}
-use Rattle.p3_matrix.specs.Cosets.{point, IsValues, coset_shift}
-use Rattle.p3_matrix.specs.Polynomials.{poly}
 use Rattle.p3_matrix.proofs.Polynomials.Cosets.{entry-poly, is_values, point-mul, point_of_one, values_from}
 use Rattle.p3_matrix.proofs.Polynomials.ByIndex.{poly_same, poly_padded, poly-add, poly-scaled, poly-times}
 

@@ -1,10 +1,8 @@
 -- Products of polynomials: the values of the convolution are the products of the values.
-use Rattle.std.proofs.Common.{◌≡◌, ℕ, zero, suc, ◌+◌, ◌-◌, ◌<◌, ◌≤◌, refl, sym, ap, ap₂, ◌∙◌, List, [], ◌∷◌, length, get_or, arith}
-use Rattle.p3_field.specs.Ring.{Ring}
-use Rattle.p3_field.proofs.Rings
-use Rattle.p3_field.proofs.RingSolver.{solve, va, vb, vc, vd, ve, zeroₑ, ◌⊞◌, ◌⊠◌}
-use Rattle.p3_matrix.specs.Polynomials.{convolution, poly, sum, value}
+use Rattle.p3_matrix.proofs.Names.{◌≡◌, ℕ, zero, suc, ◌+◌, ◌-◌, ◌<◌, ◌≤◌, refl, sym, ap, ap₂, ◌∙◌, List, [], ◌∷◌, length, get_or, arith, Ring, solve, va, vb}
+use Rattle.p3_matrix.proofs.Names.{vc, vd, ve, zeroₑ, ◌⊞◌, ◌⊠◌, convolution, poly, sum, value}
 use Rattle.p3_matrix.proofs.Polynomials.ByIndex.{poly-add, poly-times, poly_same, poly_zeros, sum_same}
+use Rattle.p3_field.proofs.Rings
 
 module _ {A : Type 0} (R : Ring A) where
   open R use {add as ◌⊕◌, mul as ◌⊗◌, zero as 𝟘}

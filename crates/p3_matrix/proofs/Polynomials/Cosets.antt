@@ -1,12 +1,9 @@
 -- Values on cosets: by index, of matrices that are one, and what a factor for each row, or rows of zeros, change.
-use Rattle.std.proofs.Common.{◌≡◌, ℕ, ◌+◌, ◌-◌, ◌<◌, ◌≤◌, ◌^◌, refl, sym, ap, ◌∙◌, subst, arith}
-use Rattle.p3_field.specs.Ring.{Ring, power}
-use Rattle.p3_field.proofs.Rings
-use Rattle.p3_matrix.specs.Matrix.{Matrix, Same, column}
+use Rattle.p3_matrix.proofs.Names.{◌≡◌, ℕ, ◌+◌, ◌-◌, ◌<◌, ◌≤◌, ◌^◌, refl, sym, ap, ◌∙◌, subst, arith, Ring, power, Matrix, Same, column, value, poly, point}
+use Rattle.p3_matrix.proofs.Names.{IsValues, coset_shift}
 use Rattle.p3_matrix.proofs.Matrices.{same_sym, same_trans}
-use Rattle.p3_matrix.specs.Polynomials.{value, poly}
-use Rattle.p3_matrix.specs.Cosets.{point, IsValues, coset_shift}
 use Rattle.p3_matrix.proofs.Polynomials.ByIndex.{poly_same, poly-scaled, poly_padded, value-index}
+use Rattle.p3_field.proofs.Rings
 
 -- the value of a column, by index
 pub value-column : {A : Type 0} (R : Ring A) (c : Matrix A) (j : ℕ) (x : A) → value R (column c j) x ≡ poly R c.height (λ i. c.entry i j) x

@@ -1,18 +1,12 @@
 -- How far apart two polynomials lie: two lists of n coefficients whose polynomials agree at n points are one, where the
 -- differences of the points have inverses; and the points of a coset of an invertible shift are such points.
-use Rattle.std.proofs.Common.{◌≡◌, ◌≢◌, ℕ, zero, suc, ◌+◌, ◌-◌, ◌<◌, ◌≤◌, ◌^◌, refl, sym, ap, ap₂, ◌∙◌, subst, [], ◌∷◌, arith, ◌⊎◌, inl, inr, get_or}
-use Rattle.std.proofs.lemmas.Bool.{cases_order}
-use Rattle.p3_field.specs.Ring.{Ring, power, two, AreRoots, IsInvertible}
-use Rattle.p3_field.proofs.Rings
-use Rattle.p3_field.proofs.RingSolver.{solve, va, vb, vc, vd, ve, zeroₑ, oneₑ, ◌⊞◌, ◌⊠◌, ◌⊟◌, ⊝}
-use Rattle.p3_field.proofs.Powers.{power-add, power-inverse}
-use Rattle.p3_field.proofs.Roots.{root_squared, root_half, root_round, inverse_root, inverse_undoes}
-use Rattle.p3_matrix.specs.Polynomials.{poly}
-use Rattle.p3_matrix.specs.Matrix.{Matrix, Same}
-use Rattle.p3_matrix.specs.Cosets.{point, IsValues}
-use Rattle.p3_matrix.specs.RowNumbers.{AgreeInRows}
+use Rattle.p3_matrix.proofs.Names.{◌≡◌, ◌≢◌, ℕ, zero, suc, ◌+◌, ◌-◌, ◌<◌, ◌≤◌, ◌^◌, refl, sym, ap, ap₂, ◌∙◌, subst, [], ◌∷◌, arith, ◌⊎◌, inl, inr, get_or}
+use Rattle.p3_matrix.proofs.Names.{cases_order, Ring, power, two, AreRoots, IsInvertible, solve, va, vb, vc, vd, ve, zeroₑ, oneₑ, ◌⊞◌, ◌⊠◌, ◌⊟◌, ⊝, power-add}
+use Rattle.p3_matrix.proofs.Names.{power-inverse, root_squared, root_half, root_round, inverse_root, inverse_undoes, poly, Matrix, Same, point, IsValues}
+use Rattle.p3_matrix.proofs.Names.{AgreeInRows}
 use Rattle.p3_matrix.proofs.Polynomials.ByIndex.{poly_zeros, poly-add, poly-neg}
 use Rattle.p3_matrix.proofs.Polynomials.Cosets.{point-mul, entry-poly, coefficients_same, values_unique}
+use Rattle.p3_field.proofs.Rings
 
 module _ {A : Type 0} (R : Ring A) where
   open R use {add as ◌⊕◌, mul as ◌⊗◌, neg, zero as 𝟘, one as 𝟙}

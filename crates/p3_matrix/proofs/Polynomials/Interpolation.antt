@@ -1,22 +1,16 @@
 -- Interpolation: N values on a coset of order N, of an invertible shift, are those of exactly one list of N coefficients.
 -- Transforming with the roots g and then with their inverses h gives each coefficient, doubled n times: by halves, on the even
 -- and the odd places. Halving is exact in the ring, so this gives uniqueness, and with g and h swapped existence.
-use Rattle.std.proofs.Common.{◌≡◌, ℕ, zero, suc, ◌+◌, ◌*◌, ◌-◌, ◌<◌, ◌≤◌, ◌^◌, refl, sym, ap, ap₂, ◌∙◌, [], ◌∷◌, arith, ◌⊎◌, inl, inr}
-use Rattle.std.proofs.lemmas.Nat.{pow_pos}
-use Rattle.p3_field.specs.Ring.{Ring, power, count, two, AreRoots, IsInverse, IsInvertible}
-use Rattle.p3_field.proofs.Rings
-use Rattle.p3_field.proofs.RingSolver.{solve, solve_by, va, vb, vc, vd, oneₑ, ◌⊞◌, ◌⊠◌, ◌⊟◌, ⊝}
-use Rattle.p3_field.proofs.Powers.{power-zero, power-suc, power_of_one, power-mul, power-inverse, count-power_of_two}
-use Rattle.p3_field.proofs.Parity.{even_or_odd}
-use Rattle.p3_field.proofs.Roots.{AreInverseRoots, inverse_roots_sym, inverse_root, inverse_roots, inverse_undoes}
-use Rattle.p3_field.proofs.Roots.{inverse_power, root_twice, root_across, root_round, root_squared, root_all, doubled}
-use Rattle.p3_field.proofs.Roots.{doubled_add, doubled-power, halved, halved-power, halved-doubled}
-use Rattle.p3_matrix.specs.Matrix.{Matrix, Same}
-use Rattle.p3_matrix.specs.Polynomials.{poly}
-use Rattle.p3_matrix.specs.Cosets.{point, IsValues, AreCoefficients, coset_shift}
+use Rattle.p3_matrix.proofs.Names.{◌≡◌, ℕ, zero, suc, ◌+◌, ◌*◌, ◌-◌, ◌<◌, ◌≤◌, ◌^◌, refl, sym, ap, ap₂, ◌∙◌, [], ◌∷◌, arith, ◌⊎◌, inl, inr, pow_pos, Ring}
+use Rattle.p3_matrix.proofs.Names.{power, count, two, AreRoots, IsInverse, IsInvertible, solve, solve_by, va, vb, vc, vd, oneₑ, ◌⊞◌, ◌⊠◌, ◌⊟◌, ⊝, power-zero}
+use Rattle.p3_matrix.proofs.Names.{power-suc, power_of_one, power-mul, power-inverse, count-power_of_two, even_or_odd, AreInverseRoots, inverse_roots_sym}
+use Rattle.p3_matrix.proofs.Names.{inverse_root, inverse_roots, inverse_undoes, inverse_power, root_twice, root_across, root_round, root_squared, root_all}
+use Rattle.p3_matrix.proofs.Names.{doubled, doubled_add, doubled-power, halved, halved-power, halved-doubled, Matrix, Same, poly, point, IsValues}
+use Rattle.p3_matrix.proofs.Names.{AreCoefficients, coset_shift}
 use Rattle.p3_matrix.proofs.Polynomials.ByIndex.{poly_same, poly-one, poly-append, poly-split, poly-add, poly-neg, poly-times, poly-scaled}
 use Rattle.p3_matrix.proofs.Rows.OppositePlaces.{opposite, opposite-zero, opposite_above_zero, opposite-lt}
 use Rattle.p3_matrix.proofs.Polynomials.Cosets.{point-mul, point_of_one, entry-poly, is_values, values_same, coefficients_same, coset_values}
+use Rattle.p3_field.proofs.Rings
 
 -- the values of c at the powers of the n-th root
 unfoldable pub transform : {A : Type 0} → Ring A → (ℕ → A) → ℕ → (ℕ → A) → ℕ → A

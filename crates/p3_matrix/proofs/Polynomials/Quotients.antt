@@ -1,11 +1,8 @@
 -- Matrices whose entries are divided by a number: products with its inverse, and rows in another order.
-use Rattle.std.proofs.Common.{◌≡◌, ℕ, ◌-◌, ◌%◌, ◌<◌, ◌^◌, refl, sym, ap, ◌∙◌, subst, arith, mod-lt}
-use Rattle.p3_field.specs.Ring.{Ring, count, power}
-use Rattle.p3_field.proofs.Rings
-use Rattle.p3_matrix.specs.BitOrder.{rev, bit_reversal}
-use Rattle.p3_matrix.specs.Cosets.{IsQuotient, coset_shift, opposite_rows}
-use Rattle.p3_matrix.specs.Matrix.{Matrix, Same, image}
+use Rattle.p3_matrix.proofs.Names.{◌≡◌, ℕ, ◌-◌, ◌%◌, ◌<◌, ◌^◌, refl, sym, ap, ◌∙◌, subst, arith, mod-lt, Ring, count, power, rev, bit_reversal, IsQuotient}
+use Rattle.p3_matrix.proofs.Names.{coset_shift, opposite_rows, Matrix, Same, image}
 use Rattle.p3_matrix.proofs.BitReversal.{rev-lt}
+use Rattle.p3_field.proofs.Rings
 
 -- entries times the inverse of n are divided by n
 pub quotient_of_products : {A : Type 0} (r : Ring A) (n : ℕ) (inverse : A) (m out : Matrix A) → r.mul (count r n) inverse ≡ r.one

@@ -1,16 +1,10 @@
 -- Coefficients from the values at the powers of the inverse root, in bit reversed order.
-use Rattle.std.proofs.Common.{◌≡◌, ℕ, ◌<◌, ◌≤◌, ◌^◌, refl, sym, ap, ◌∙◌, arith}
-use Rattle.p3_field.specs.Ring.{Ring, AreRoots, count, power}
-use Rattle.p3_field.proofs.Rings
-use Rattle.p3_field.proofs.Powers.{count-power_of_two}
-use Rattle.p3_field.proofs.Roots.{inverse_root}
-use Rattle.p3_matrix.specs.BitOrder.{rev, bit_reversal}
-use Rattle.p3_matrix.specs.Cosets.{AreCoefficients, IsQuotient}
-use Rattle.p3_matrix.specs.Matrix.{Matrix, Same}
-use Rattle.p3_matrix.specs.Polynomials.{poly}
+use Rattle.p3_matrix.proofs.Names.{◌≡◌, ℕ, ◌<◌, ◌≤◌, ◌^◌, refl, sym, ap, ◌∙◌, arith, Ring, AreRoots, count, power, count-power_of_two, inverse_root, rev}
+use Rattle.p3_matrix.proofs.Names.{bit_reversal, AreCoefficients, IsQuotient, Matrix, Same, poly}
 use Rattle.p3_matrix.proofs.BitReversal.{rev_of_zero, rev-lt, rev-rev}
 use Rattle.p3_matrix.proofs.Polynomials.ByIndex.{poly_same, poly-one, poly-times}
 use Rattle.p3_matrix.proofs.Polynomials.Interpolation.{inverse_transform, transform_is}
+use Rattle.p3_field.proofs.Rings
 
 -- a single row is where it was
 pub reversed_row : {A : Type 0} (k : ℕ) (m : Matrix A) → m.height ≡ 1 → Same m (bit_reversal k m)

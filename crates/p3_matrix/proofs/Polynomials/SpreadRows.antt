@@ -1,14 +1,9 @@
 -- Rows that are spread: row i goes to the place i * 2 ^ a, and the others are z. Where rows lie in bit reversed order, that is rows of z
 -- below all others.
-use Rattle.std.proofs.Common.{◌≡◌, ◌≢◌, ℕ, ◌+◌, ◌*◌, ◌/◌, ◌%◌, ◌<◌, ◌≤◌, ◌^◌, refl, sym, ap, ◌∙◌, subst, arith, ⊎_elim, le-mul_of_pos_right}
-use Rattle.std.proofs.Math.Nat.{mul-le-mul_right}
-use Rattle.std.proofs.lemmas.Bool.{cases_lt, cases_eq, eq-eqb, ne_eqb}
-use Rattle.std.proofs.lemmas.Nat.{pow_pos, div-add-mod', div_below, mod_below}
-use Rattle.p3_field.specs.Ring.{Ring}
-use Rattle.p3_matrix.specs.BitOrder.{rev, bit_reversal}
-use Rattle.p3_matrix.specs.Matrix.{Matrix, Same, row_exchange}
+use Rattle.p3_matrix.proofs.Names.{◌≡◌, ◌≢◌, ℕ, ◌+◌, ◌*◌, ◌/◌, ◌%◌, ◌<◌, ◌≤◌, ◌^◌, refl, sym, ap, ◌∙◌, subst, arith, ⊎_elim, le-mul_of_pos_right}
+use Rattle.p3_matrix.proofs.Names.{mul-le-mul_right, cases_lt, cases_eq, eq-eqb, ne_eqb, pow_pos, div-add-mod', div_below, mod_below, Ring, rev, bit_reversal}
+use Rattle.p3_matrix.proofs.Names.{Matrix, Same, row_exchange, IsValues}
 use Rattle.p3_matrix.proofs.BitReversal.{rev_of_zero, rev-block, rev-lt, rev-rev}
-use Rattle.p3_matrix.specs.Cosets.{IsValues}
 use Rattle.p3_matrix.proofs.Polynomials.Cosets.{padded_values}
 
 -- the rows from n on, of h, are in their places N apart: x before, y after

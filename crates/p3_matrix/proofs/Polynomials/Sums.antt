@@ -1,7 +1,5 @@
 -- The values of a matrix' columns at one point, as sums that are made term by term.
-use Rattle.std.proofs.Common.{◌≡◌, ℕ, ◌+◌, ◌*◌, ◌<◌, List, get_or, take, drop, sym, ap, ◌∙◌, arith}
-use Rattle.p3_field.specs.Ring.{Ring, power}
-use Rattle.p3_matrix.specs.Polynomials.{poly}
+use Rattle.p3_matrix.proofs.Names.{◌≡◌, ℕ, ◌+◌, ◌*◌, ◌<◌, List, get_or, take, drop, sym, ap, ◌∙◌, arith, Ring, power, poly}
 use Rattle.p3_matrix.proofs.Rows.Overwritten.{part_at}
 use Rattle.p3_matrix.proofs.Polynomials.ByIndex.{poly-none, poly-more}
 

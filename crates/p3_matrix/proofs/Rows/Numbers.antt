@@ -1,10 +1,6 @@
 -- Row numbers of which a fact holds: more and fewer of them, and the rows split by two facts.
-use Rattle.std.proofs.Common.{◌≡◌, ◌≢◌, ℕ, zero, suc, ◌+◌, ◌<◌, ◌≤◌, ◌⊎◌, inl, inr, [], ◌∷◌, length, get_or, map, refl, sym, ◌∙◌, subst, arith}
-use Rattle.std.specs.List.{range_with_len}
-use Rattle.std.proofs.lemmas.List.Elements.{All-cons}
-use Rattle.std.proofs.lemmas.List.FromFn.{length-map-range_with_len, get_or-map-range_with_len}
-use Rattle.std.proofs.lemmas.List.Kept.{AllPairs-cons}
-use Rattle.p3_matrix.specs.RowNumbers.{HoldsInRows}
+use Rattle.p3_matrix.proofs.Names.{◌≡◌, ◌≢◌, ℕ, zero, suc, ◌+◌, ◌<◌, ◌≤◌, ◌⊎◌, inl, inr, [], ◌∷◌, length, get_or, map, refl, sym, ◌∙◌, subst, arith}
+use Rattle.p3_matrix.proofs.Names.{range_with_len, All-cons, length-map-range_with_len, get_or-map-range_with_len, AllPairs-cons, HoldsInRows}
 
 none : (P : ℕ → Type 0) → HoldsInRows 0 0 P
 none P = record {

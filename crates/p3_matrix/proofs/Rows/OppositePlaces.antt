@@ -1,7 +1,6 @@
 -- Rows in opposite order: row 0 stays, and rows 1 to n - 1 change places with rows n - 1 to 1.
-use Rattle.std.proofs.Common.{◌≡◌, ◌≢◌, ℕ, zero, suc, ◌+◌, ◌*◌, ◌-◌, ◌%◌, ◌<◌, ◌≤◌, sym, ap, ◌∙◌, subst, arith, ◌⊎◌, inl, inr, mod-lt, mod-eq_of_lt}
-use Rattle.std.proofs.lemmas.Bool.{cases_lt}
-use native.Mathlib.Nat.{mod_self}
+use Rattle.p3_matrix.proofs.Names.{◌≡◌, ◌≢◌, ℕ, zero, suc, ◌+◌, ◌*◌, ◌-◌, ◌%◌, ◌<◌, ◌≤◌, sym, ap, ◌∙◌, subst, arith, ◌⊎◌, inl, inr, mod-lt, mod-eq_of_lt}
+use Rattle.p3_matrix.proofs.Names.{cases_lt, mod_self}
 use Rattle.p3_matrix.proofs.Rows.Pairs.{Apart, PairsDone, pairs_more}
 
 -- the place in which row j stands, of n

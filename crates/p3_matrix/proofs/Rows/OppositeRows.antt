@@ -1,11 +1,6 @@
 -- Rows of a stored matrix put into opposite order by exchanges.
-use Rattle.std.proofs.Common.{◌≡◌, ◌≢◌, ℕ, ◌+◌, ◌*◌, ◌-◌, ◌%◌, ◌<◌, ◌≤◌, length, refl, sym, ap, ◌∙◌, subst, arith, ⊎_elim}
-use Rattle.std.proofs.Math.Nat.{mul-le-mul_right}
-use Rattle.std.proofs.lemmas.Bool.{cases_lt, eq-eqb, ne_eqb}
-use Rattle.std.proofs.lemmas.List.{get_or_past}
-use Rattle.p3_matrix.specs.RowMajor.{RowMajor, HasShapeOf, height}
-use Rattle.p3_matrix.specs.Matrix.{matrix, row_exchange, Same}
-use Rattle.p3_matrix.specs.Cosets.{opposite_rows}
+use Rattle.p3_matrix.proofs.Names.{◌≡◌, ◌≢◌, ℕ, ◌+◌, ◌*◌, ◌-◌, ◌%◌, ◌<◌, ◌≤◌, length, refl, sym, ap, ◌∙◌, subst, arith, ⊎_elim, mul-le-mul_right, cases_lt}
+use Rattle.p3_matrix.proofs.Names.{eq-eqb, ne_eqb, get_or_past, RowMajor, HasShapeOf, height, matrix, row_exchange, Same, opposite_rows}
 use Rattle.p3_matrix.proofs.Rows.OppositePlaces.{OppositeUntil, opposite_more, opposite_all}
 
 module _ {T : Type 0} (d : T) where

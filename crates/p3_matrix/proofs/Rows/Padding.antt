@@ -1,15 +1,10 @@
 -- Rows of zeros below a stored matrix.
-use Rattle.std.proofs.Common.{ℕ, ◌≡◌, ◌+◌, ◌*◌, ◌-◌, ◌^◌, ◌<◌, ◌≤◌, zero, suc, List, length, get_or, replicate, refl, sym, ap, ◌∙◌, arith, le-mul_of_pos_right}
-use Rattle.std.proofs.Math.ListN.{get_or-append}
-use Rattle.std.proofs.Math.Seq.{get_or-append_right}
-use Rattle.std.proofs.lemmas.List.{length-append, length-replicate}
-use Rattle.std.proofs.lemmas.Nat.{pow-add, pow_pos, mul-add-lt}
-use Rattle.std.proofs.Math.Nat.{mul_assoc, mul_comm, mul-le-mul_right}
-use Rattle.p3_field.specs.declared.fields.Valued.{Ghosts as FieldMembers}
-use Rattle.p3_matrix.specs.RowMajor.{RowMajor, IsRowMajor, height, HasShapeOf, with_zeros}
+use Rattle.p3_matrix.proofs.Names.{ℕ, ◌≡◌, ◌+◌, ◌*◌, ◌-◌, ◌^◌, ◌<◌, ◌≤◌, zero, suc, List, length, get_or, replicate, refl, sym, ap, ◌∙◌, arith}
+use Rattle.p3_matrix.proofs.Names.{le-mul_of_pos_right, get_or-append, get_or-append_right, length-append, length-replicate, pow-add, pow_pos, mul-add-lt}
+use Rattle.p3_matrix.proofs.Names.{mul_assoc, mul_comm, mul-le-mul_right, RowMajor, IsRowMajor, height, HasShapeOf, with_zeros, IsValues, values_of}
 use Rattle.p3_matrix.proofs.RowMajor.{whole_rows}
-use Rattle.p3_matrix.specs.Cosets.{IsValues, values_of}
 use Rattle.p3_matrix.proofs.Polynomials.Cosets.{padded_values}
+use Rattle.p3_field.specs.declared.fields.Valued.{Ghosts as FieldMembers}
 
 -- past its end a list of copies is read as one more
 pub copy_at : {X : Type 0} (k n : ℕ) (z : X) → get_or (replicate k z) n z ≡ z

@@ -1,13 +1,8 @@
 -- Rows of zeros in a stored matrix, and where they begin.
-use Rattle.std.proofs.Common.{◌≡◌, ◌↔◌, ℕ, ◌+◌, ◌-◌, ◌*◌, ◌/◌, ◌%◌, ◌<◌, ◌≤◌, Bool, IsTrue, length, get_or, min, take, drop, sym, ap, ◌∙◌, arith}
-use Rattle.std.specs.List.{All}
-use Rattle.std.proofs.Math.Nat.{mul-le-mul_right}
-use Rattle.std.proofs.lemmas.List.{get_or_default}
-use Rattle.std.proofs.lemmas.Nat.{div-add-mod', div_below, le-div, mod_below}
-use Rattle.p3_field.specs.declared.fields.Valued.{Ghosts as FieldMembers}
-use Rattle.p3_matrix.specs.RowMajor.{RowMajor, IsRowMajor, height}
+use Rattle.p3_matrix.proofs.Names.{◌≡◌, ◌↔◌, ℕ, ◌+◌, ◌-◌, ◌*◌, ◌/◌, ◌%◌, ◌<◌, ◌≤◌, Bool, IsTrue, length, get_or, min, take, drop, sym, ap, ◌∙◌, arith, All}
+use Rattle.p3_matrix.proofs.Names.{mul-le-mul_right, get_or_default, div-add-mod', div_below, le-div, mod_below, RowMajor, IsRowMajor, height, values_of}
 use Rattle.p3_matrix.proofs.Rows.Overwritten.{part_at, part_size}
-use Rattle.p3_matrix.specs.Cosets.{values_of}
+use Rattle.p3_field.specs.declared.fields.Valued.{Ghosts as FieldMembers}
 
 module _ {F : Type 0} (f : FieldMembers F) (m : RowMajor F) (start : ℕ) (whole : IsRowMajor m) (inside : start ≤ height m) where
   -- the entries from row `start` on

@@ -1,5 +1,4 @@
-use Rattle.p3_matrix.proofs.Tiles.{chunk_fits}
-use Rattle.std.proofs.Common.{Fits-le, le-add_right, le_trans, le-mul_of_pos_right, lt_of_le_of_lt, zero-le}
+use Rattle.p3_matrix.proofs.Lemmas.{chunk_fits, Fits-le, le-add_right, le_trans, le-mul_of_pos_right, lt_of_le_of_lt, zero-le}
 use Rattle.p3_matrix.proofs.bitrev.chunk_number.Goals as goal
 
 pub overflow_add-result-2 : goal.overflow_add-result-2

@@ -1,5 +1,4 @@
-use Rattle.std.proofs.Common.{◌≡◌, ◌/◌, ◌<◌, ◌⊎◌, inl, inr, ap, arith}
-use Rattle.std.proofs.lemmas.Nat.{one_shl}
+use Rattle.p3_matrix.proofs.Lemmas.{◌≡◌, ◌/◌, ◌<◌, ◌⊎◌, inl, inr, ap, arith, one_shl}
 use Rattle.p3_matrix.proofs.Carries.{carry_starts, carry_goes_on, carry_ends}
 use Rattle.p3_matrix.proofs.bitrev.next_reversed.Goals as goal
 use Rattle.p3_matrix.proofs.bitrev.next_reversed.Goals.{then-loop-digit-test+else-rest-digit, else-loop-digit-test}

@@ -1,6 +1,4 @@
-use Rattle.std.proofs.Common.{◌≡◌, ◌+◌, ◌*◌, ◌^◌, ◌<◌, ◌≤◌, ℕ}
-use Rattle.p3_matrix.specs.BitOrder.{rev}
-use Rattle.p3_matrix.proofs.Carries.{IsCarry}
+use Rattle.p3_matrix.proofs.Lemmas.{◌≡◌, ◌+◌, ◌*◌, ◌^◌, ◌<◌, ◌≤◌, ℕ, rev, IsCarry}
 use Rattle.p3_matrix.proofs.bitrev.next_reversed.Given as goal
 
 abbrev pub invariant-loop-digit : goal.invariant-loop-digit

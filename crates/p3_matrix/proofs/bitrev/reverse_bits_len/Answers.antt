@@ -1,6 +1,4 @@
-use Rattle.std.proofs.Common.{◌≡◌, ◌+◌, ◌-◌, ◌*◌, ◌/◌, ◌%◌, ◌^◌, ◌<◌, ℕ, zero, suc, ap, ◌∙◌, arith}
-use Rattle.p3_matrix.specs.BitOrder.{rev}
-use Rattle.p3_matrix.proofs.TwoPowers.{digit_below}
+use Rattle.p3_matrix.proofs.Lemmas.{◌≡◌, ◌+◌, ◌-◌, ◌*◌, ◌/◌, ◌%◌, ◌^◌, ◌<◌, ℕ, zero, suc, ap, ◌∙◌, arith, rev, digit_below}
 use Rattle.p3_matrix.proofs.bitrev.reverse_bits_len.Goals as goal
 
 -- the last digit of what is left becomes the next of the reverse

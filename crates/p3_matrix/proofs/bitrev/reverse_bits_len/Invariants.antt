@@ -1,5 +1,4 @@
-use Rattle.std.proofs.Common.{◌≡◌, ◌+◌, ◌-◌, ◌*◌, ◌^◌, ◌<◌}
-use Rattle.p3_matrix.specs.BitOrder.{rev}
+use Rattle.p3_matrix.proofs.Lemmas.{◌≡◌, ◌+◌, ◌-◌, ◌*◌, ◌^◌, ◌<◌, rev}
 use Rattle.p3_matrix.proofs.bitrev.reverse_bits_len.Given as goal
 
 abbrev pub invariant-loop-digit : goal.invariant-loop-digit

@@ -1,13 +1,8 @@
-use Rattle.std.proofs.Common.{◌≡◌, ◌+◌, ◌-◌, ◌*◌, ◌%◌, ◌^◌, ◌<◌, ◌⊎◌, inl, inr, length, refl, sym, ap, ◌∙◌, arith}
-use Rattle.std.proofs.lemmas.Nat.{one_shl, pow_pos}
-use Rattle.p3_matrix.specs.BitOrder.{rev}
-use Rattle.p3_matrix.proofs.BitReversal.{rev_of_zero, rev-lt}
-use Rattle.p3_matrix.proofs.RowMajor.{row_within}
-use Rattle.p3_matrix.proofs.HalfReversed.{rows_half_reversed_none, rows_half_reversed_more, rows_half_reversed_kept}
-use Rattle.p3_matrix.proofs.HalfReversed.{rows_half_reversed_skipped, rows_half_reversed_all, rows_half_reversed_at}
-use Rattle.p3_matrix.proofs.Tiles.{tile_order, digits, usize_size, chunk_lt, chunk_in_tile_order, mirror_not_after}
-use Rattle.p3_matrix.proofs.Tiles.{partner_is, partner_after, partner_not, chunks_apart, are_numbers, all_below}
-use Rattle.p3_matrix.proofs.Tiles.{tile_done}
+use Rattle.p3_matrix.proofs.Lemmas.{◌≡◌, ◌+◌, ◌-◌, ◌*◌, ◌%◌, ◌^◌, ◌<◌, ◌⊎◌, inl, inr, length, refl, sym, ap, ◌∙◌, arith, one_shl, pow_pos, rev, rev_of_zero}
+use Rattle.p3_matrix.proofs.Lemmas.{rev-lt, row_within, tile_order, digits, usize_size, chunk_lt, chunk_in_tile_order, mirror_not_after, partner_is}
+use Rattle.p3_matrix.proofs.Lemmas.{partner_after, partner_not, chunks_apart, are_numbers, all_below, tile_done}
+use Rattle.p3_matrix.proofs.HalfReversed.{rows_half_reversed_none, rows_half_reversed_more, rows_half_reversed_kept, rows_half_reversed_skipped}
+use Rattle.p3_matrix.proofs.HalfReversed.{rows_half_reversed_all, rows_half_reversed_at}
 use Rattle.p3_matrix.proofs.bitrev.reverse_by_tiles.Goals as goal
 use Rattle.p3_matrix.proofs.bitrev.reverse_by_tiles.Goals.{then-tile-mirror-2, else-tile-mirror-2+else-first-far_first}
 use Rattle.p3_matrix.proofs.bitrev.reverse_by_tiles.Goals.{then-tile-mirror-2-via-then-tile-mirror-2}

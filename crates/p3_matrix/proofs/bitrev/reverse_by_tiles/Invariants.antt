@@ -1,7 +1,4 @@
-use Rattle.std.proofs.Common.{◌≡◌, ◌+◌, ◌*◌, ◌^◌, ◌<◌}
-use Rattle.p3_matrix.specs.BitOrder.{rev}
-use Rattle.p3_matrix.proofs.HalfReversed.{IsRowsHalfReversed}
-use Rattle.p3_matrix.proofs.Tiles.{tile_order}
+use Rattle.p3_matrix.proofs.Lemmas.{◌≡◌, ◌+◌, ◌*◌, ◌^◌, ◌<◌, rev, IsRowsHalfReversed, tile_order}
 use Rattle.p3_matrix.proofs.bitrev.reverse_by_tiles.Given as goal
 
 abbrev pub invariant-loop-tile : goal.invariant-loop-tile

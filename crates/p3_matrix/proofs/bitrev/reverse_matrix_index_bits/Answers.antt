@@ -1,7 +1,5 @@
-use Rattle.std.proofs.Common.{◌≡◌, length, sym, ap, ◌∙◌, ◌/◌, refl}
-use Rattle.p3_matrix.proofs.TwoPowers.{log_same}
+use Rattle.p3_matrix.proofs.Lemmas.{◌≡◌, length, sym, ap, ◌∙◌, ◌/◌, refl, log_same, written_size}
 use Rattle.p3_matrix.proofs.HalfReversed.{reversed_rows}
-use Rattle.p3_matrix.proofs.RowMajor.{written_size}
 use Rattle.p3_matrix.proofs.bitrev.reverse_matrix_index_bits.Goals as goal
 
 pub returns-then-height-gt0-clause-rows : goal.returns-then-height-gt0-clause-rows

@@ -1,7 +1,4 @@
-use Rattle.std.proofs.Common.{rules, ◌≡◌, ◌∙◌, ap, subst}
-use Rattle.p3_matrix.specs.BitOrder.{bit_reversal, reversed_rows}
-use Rattle.p3_matrix.specs.Matrix.{Same, matrix}
-use Rattle.p3_matrix.specs.RowMajor.{RowMajor, height}
+use Rattle.p3_matrix.proofs.Lemmas.{rules, ◌≡◌, ◌∙◌, ap, subst, bit_reversal, reversed_rows, Same, matrix, RowMajor, height}
 use Rattle.p3_matrix.proofs.ReversedRows.{reversed_is, reversed_from}
 use Rattle.p3_matrix.proofs.bitrev.reverse_rows.Goals as goal
 

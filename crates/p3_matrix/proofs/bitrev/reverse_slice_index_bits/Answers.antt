@@ -1,6 +1,4 @@
-use Rattle.std.proofs.Common.{◌≡◌, ◌+◌, ◌*◌, get_or, sym, ap, ◌∙◌, lit<, arith}
-use Rattle.p3_matrix.specs.BitOrder.{rev}
-use Rattle.p3_matrix.proofs.TwoPowers.{log_same}
+use Rattle.p3_matrix.proofs.Lemmas.{◌≡◌, ◌+◌, ◌*◌, get_or, sym, ap, ◌∙◌, lit<, arith, rev, log_same}
 use Rattle.p3_matrix.proofs.bitrev.reverse_slice_index_bits.Goals as goal
 
 pub returns-then-size-gt0 : goal.returns-then-size-gt0

@@ -1,6 +1,4 @@
-use Rattle.std.proofs.Common.{sym, ◌∙◌}
-use Rattle.p3_field.specs.Ring.{minus}
-use Rattle.p3_matrix.proofs.RowsByPacks.{three_in_parts}
+use Rattle.p3_matrix.proofs.Lemmas.{sym, ◌∙◌, minus, three_in_parts}
 use Rattle.p3_matrix.proofs.butterflies.apply_dit_by_place.Goals as goal
 
 pub returns-clause-near : goal.returns-clause-near

@@ -1,5 +1,4 @@
-use Rattle.std.proofs.Common.{sym, ◌∙◌}
-use Rattle.p3_matrix.proofs.RowsByPacks.{rows_in_parts, products_in_parts}
+use Rattle.p3_matrix.proofs.Lemmas.{sym, ◌∙◌, rows_in_parts, products_in_parts}
 use Rattle.p3_matrix.proofs.packs.apply_by_packs.Goals as goal
 
 pub returns-clause-near : goal.returns-clause-near

@@ -1,6 +1,5 @@
-use Rattle.std.proofs.Common.{◌≡◌, ◌<◌, length, map, sym, ap, ap₂, ◌∙◌, arith, subst}
-use Rattle.std.proofs.lemmas.List.{length-map}
-use Rattle.p3_matrix.proofs.RowsByPacks.{of_one_lane, element_stays, element_done, elements_done, more_products}
+use Rattle.p3_matrix.proofs.Lemmas.{◌≡◌, ◌<◌, length, map, sym, ap, ap₂, ◌∙◌, arith, subst, length-map, of_one_lane, element_stays, element_done, elements_done}
+use Rattle.p3_matrix.proofs.Lemmas.{more_products}
 use Rattle.p3_matrix.proofs.packs.apply_to_elements.Goals as goal
 
 -- One more element of both rows. What is read at i is what the rows held there at first (`element_stays`), and the

@@ -1,5 +1,4 @@
-use Rattle.p3_field.specs.Lanes.{by_lanes}
-use Rattle.std.proofs.Common.{ap₂, ◌∙◌}
+use Rattle.p3_matrix.proofs.Lemmas.{by_lanes, ap₂, ◌∙◌}
 use Rattle.p3_matrix.proofs.packs.apply_to_pack.Goals as goal
 
 pub returns-else-ONE_BY_ONE : goal.returns-else-ONE_BY_ONE

@@ -1,7 +1,5 @@
-use Rattle.std.proofs.Common.{◌≡◌, ◌+◌, ◌-◌, ◌*◌, ◌≤◌, length, map, sym, ap, ap₂, ◌∙◌, ◌<◌, subst, refl, lt_of_le_of_lt}
-use Rattle.std.proofs.lemmas.List.{length-map}
-use Rattle.p3_field.specs.Lanes.{by_lanes}
-use Rattle.p3_matrix.proofs.RowsByPacks.{next_pack, pack_done, pack_fits, pack_within, loop_ends, packs_done, pack_sizes, more_products}
+use Rattle.p3_matrix.proofs.Lemmas.{◌≡◌, ◌+◌, ◌-◌, ◌*◌, ◌≤◌, length, map, sym, ap, ap₂, ◌∙◌, ◌<◌, subst, refl, lt_of_le_of_lt, length-map, by_lanes, next_pack}
+use Rattle.p3_matrix.proofs.Lemmas.{pack_done, pack_fits, pack_within, loop_ends, packs_done, pack_sizes, more_products}
 use Rattle.p3_matrix.proofs.packs.apply_to_packs.Goals as goal
 
 pub loop-at-preserved : goal.loop-at-preserved

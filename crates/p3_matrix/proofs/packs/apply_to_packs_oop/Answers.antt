@@ -1,7 +1,5 @@
-use Rattle.std.proofs.Common.{◌≡◌, ◌+◌, ◌-◌, ◌*◌, ◌≤◌, length, map, drop, take, sym, ap, ap₂, ◌∙◌, ◌<◌, subst, refl, lt_of_le_of_lt}
-use Rattle.std.proofs.lemmas.List.{length-map, take-map, drop-map}
-use Rattle.p3_field.specs.Lanes.{by_lanes}
-use Rattle.p3_matrix.proofs.RowsByPacks.{pack_done, pack_fits, pack_within, loop_ends, packs_done, pack_sizes, more_products}
+use Rattle.p3_matrix.proofs.Lemmas.{◌≡◌, ◌+◌, ◌-◌, ◌*◌, ◌≤◌, length, map, drop, take, sym, ap, ap₂, ◌∙◌, ◌<◌, subst, refl, lt_of_le_of_lt, length-map, take-map}
+use Rattle.p3_matrix.proofs.Lemmas.{drop-map, by_lanes, pack_done, pack_fits, pack_within, loop_ends, packs_done, pack_sizes, more_products}
 use borrow.Author.Rules.{scaled_Fits}
 use Rattle.p3_matrix.proofs.packs.apply_to_packs_oop.Goals as goal
 

@@ -1,10 +1,5 @@
-use Rattle.std.proofs.Common.{◌≡◌, ◌<◌, length, map, get_or, sym, ap, ap₂, ◌∙◌, arith, subst}
-use Rattle.std.proofs.lemmas.List.{length-map, get_or-map}
-use Rattle.p3_field.specs.Lanes.{by_lanes}
-use Rattle.p3_field.specs.Ring.{minus}
-use Rattle.p3_field.proofs.LaneLoops.{get_or-by_lanes}
-use Rattle.p3_matrix.proofs.Lanes.{length-by_lanes}
-use Rattle.p3_matrix.proofs.RowsByPacks.{element_stays, element_done, elements_done, products_long}
+use Rattle.p3_matrix.proofs.Lemmas.{◌≡◌, ◌<◌, length, map, get_or, sym, ap, ap₂, ◌∙◌, arith, subst, length-map, get_or-map, by_lanes, minus, get_or-by_lanes}
+use Rattle.p3_matrix.proofs.Lemmas.{length-by_lanes, element_stays, element_done, elements_done, products_long}
 use Rattle.p3_matrix.proofs.packs.dit_on_elements.Goals as goal
 
 -- One more element of both rows. What is read at i is what the rows held there at first (`element_stays`), and the

@@ -1,7 +1,4 @@
-use Rattle.std.proofs.Common.{◌≡◌, ◌+◌, map}
-use Rattle.p3_field.specs.Lanes.{by_lanes}
-use Rattle.p3_field.specs.Ring.{minus}
-use Rattle.p3_field.proofs.LaneLoops.{until}
+use Rattle.p3_matrix.proofs.Lemmas.{◌≡◌, ◌+◌, map, by_lanes, minus, until}
 use Rattle.p3_matrix.proofs.packs.dit_on_elements.Given as goal
 
 abbrev pub invariant-loop-i : goal.invariant-loop-i

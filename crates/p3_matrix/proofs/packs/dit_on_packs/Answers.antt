@@ -1,9 +1,6 @@
-use Rattle.std.proofs.Common.{◌≡◌, ◌+◌, ◌-◌, ◌≤◌, length, map, take, drop, refl, sym, ap, ap₂, ◌∙◌, arith, ◌<◌, subst, lt_of_le_of_lt}
-use Rattle.std.proofs.lemmas.List.{length-map, take-map, drop-map}
-use Rattle.p3_field.specs.Lanes.{by_lanes}
-use Rattle.p3_field.specs.Ring.{minus}
+use Rattle.p3_matrix.proofs.Lemmas.{◌≡◌, ◌+◌, ◌-◌, ◌≤◌, length, map, take, drop, refl, sym, ap, ap₂, ◌∙◌, arith, ◌<◌, subst, lt_of_le_of_lt, length-map}
+use Rattle.p3_matrix.proofs.Lemmas.{take-map, drop-map, by_lanes, minus, next_pack, pack_done, pack_fits, products_long, rows_done_all, pack_within, pack_sizes}
 use Rattle.p3_matrix.proofs.Lanes.{take-by_lanes, drop-by_lanes}
-use Rattle.p3_matrix.proofs.RowsByPacks.{next_pack, pack_done, pack_fits, products_long, rows_done_all, pack_within, pack_sizes}
 use Rattle.p3_matrix.proofs.packs.dit_on_packs.Goals as goal
 
 -- One more pack of both rows. What is in it is still what the rows held at first (`next_pack`), and the multiples are

@@ -1,7 +1,4 @@
-use Rattle.std.proofs.Common.{◌≡◌, ◌+◌, ◌-◌, ◌*◌, ℕ, length, map}
-use Rattle.p3_field.specs.Lanes.{by_lanes}
-use Rattle.p3_field.specs.Ring.{minus}
-use Rattle.p3_matrix.proofs.RowsByPacks.{rows_done}
+use Rattle.p3_matrix.proofs.Lemmas.{◌≡◌, ◌+◌, ◌-◌, ◌*◌, ℕ, length, map, by_lanes, minus, rows_done}
 use Rattle.p3_matrix.proofs.packs.dit_on_packs.Given as goal
 
 abbrev pub invariant-loop-at : goal.invariant-loop-at

@@ -1,5 +1,4 @@
-use Rattle.std.proofs.Common.{◌/◌, arith}
-use Rattle.std.proofs.lemmas.Nat.{div-add-mod'}
+use Rattle.p3_matrix.proofs.Lemmas.{◌/◌, arith, div-add-mod'}
 use Rattle.p3_matrix.proofs.packs.full_packs.Goals as goal
 
 pub returns-clause-whole : goal.returns-clause-whole

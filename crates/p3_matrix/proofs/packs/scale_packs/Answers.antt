@@ -1,7 +1,5 @@
-use Rattle.std.proofs.Common.{◌≡◌, ◌+◌, ◌-◌, ◌≤◌, length, map, drop, take, refl, sym, ap, ◌∙◌, arith, subst, lt_of_le_of_lt, ◌<◌}
-use Rattle.std.proofs.lemmas.List.{length-map}
-use Rattle.p3_matrix.proofs.Lanes.{by_lanes_of_left}
-use Rattle.p3_matrix.proofs.RowsByPacks.{next_pack, pack_done, pack_fits, rows_done_all, pack_within, pack_sizes}
+use Rattle.p3_matrix.proofs.Lemmas.{◌≡◌, ◌+◌, ◌-◌, ◌≤◌, length, map, drop, take, refl, sym, ap, ◌∙◌, arith, subst, lt_of_le_of_lt, ◌<◌, length-map}
+use Rattle.p3_matrix.proofs.Lemmas.{by_lanes_of_left, next_pack, pack_done, pack_fits, rows_done_all, pack_within, pack_sizes}
 use Rattle.p3_matrix.proofs.packs.scale_packs.Goals as goal
 
 pub loop-at-preserved : goal.loop-at-preserved

@@ -1,7 +1,5 @@
-use Rattle.std.proofs.Common.{◌≡◌, ◌+◌, ◌-◌, length, map, drop, take, refl, sym, ap, ◌∙◌, arith}
-use Rattle.std.proofs.lemmas.List.{length-map, take-map, drop-map}
-use Rattle.p3_matrix.proofs.Lanes.{by_lanes_of_left}
-use Rattle.p3_matrix.proofs.RowsByPacks.{pack_done, pack_fits, pack_within, loop_ends, packs_done, pack_sizes}
+use Rattle.p3_matrix.proofs.Lemmas.{◌≡◌, ◌+◌, ◌-◌, length, map, drop, take, refl, sym, ap, ◌∙◌, arith, length-map, take-map, drop-map, by_lanes_of_left}
+use Rattle.p3_matrix.proofs.Lemmas.{pack_done, pack_fits, pack_within, loop_ends, packs_done, pack_sizes}
 use Rattle.p3_matrix.proofs.packs.scale_packs_oop.Goals as goal
 
 pub loop-at-preserved : goal.loop-at-preserved

@@ -1,5 +1,4 @@
-use Rattle.std.proofs.Common.{◌≡◌, ◌+◌, ◌-◌, ◌*◌, ℕ, length, map}
-use Rattle.p3_matrix.proofs.RowsByPacks.{rows_done}
+use Rattle.p3_matrix.proofs.Lemmas.{◌≡◌, ◌+◌, ◌-◌, ◌*◌, ℕ, length, map, rows_done}
 use Rattle.p3_matrix.proofs.packs.scale_packs_oop.Given as goal
 
 abbrev pub invariant-loop-at : goal.invariant-loop-at

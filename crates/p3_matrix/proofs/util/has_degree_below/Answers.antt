@@ -1,6 +1,4 @@
-use Rattle.p3_matrix.proofs.Rows.Zeros.{zeros_from_bound}
-use Rattle.std.proofs.Common.{Fits-le, rules}
-use Rattle.p3_matrix.proofs.RowMajor.{bound_within}
+use Rattle.p3_matrix.proofs.Lemmas.{zeros_from_bound, Fits-le, rules, bound_within}
 use Rattle.p3_matrix.proofs.util.has_degree_below.Goals as goal
 
 pub returns : goal.returns

@@ -1,5 +1,4 @@
-use Rattle.std.proofs.Common.{◌≡◌, ◌^◌, sym, ap, ◌∙◌, arith}
-use Rattle.p3_matrix.proofs.TwoPowers.{log_unique}
+use Rattle.p3_matrix.proofs.Lemmas.{◌≡◌, ◌^◌, sym, ap, ◌∙◌, arith, log_unique}
 use Rattle.p3_matrix.proofs.util.log2_strict_usize.Goals as goal
 
 pub returns-clause-power : goal.returns-clause-power

@@ -1,7 +1,4 @@
-use Rattle.std.proofs.Common.{length, ap, ◌∙◌, ◌/◌, refl}
-use Rattle.p3_matrix.proofs.RowExchanges.{swapped_column, exchanged_rows}
-use Rattle.p3_matrix.proofs.Tiles.{chunks_apart}
-use Rattle.p3_matrix.proofs.RowMajor.{written_size}
+use Rattle.p3_matrix.proofs.Lemmas.{length, ap, ◌∙◌, ◌/◌, refl, swapped_column, exchanged_rows, chunks_apart, written_size}
 use Rattle.p3_matrix.proofs.util.swap_rows.Goals as goal
 
 pub exchange-requires-clause-apart : goal.exchange-requires-clause-apart

@@ -1,9 +1,5 @@
-use Rattle.std.proofs.Common.{◌≡◌, ◌^◌, ◌<◌, length, sym, ap, ◌∙◌, arith}
-use Rattle.p3_matrix.specs.BitOrder.{reversed_rows}
-use Rattle.p3_matrix.specs.RowMajor.{height, row}
-use Rattle.p3_matrix.proofs.BitReversal.{rev-lt}
+use Rattle.p3_matrix.proofs.Lemmas.{◌≡◌, ◌^◌, ◌<◌, length, sym, ap, ◌∙◌, arith, reversed_rows, height, row, rev-lt, log_of_height}
 use Rattle.p3_matrix.proofs.ReversedRows.{reversed_row, reversed_row_length}
-use Rattle.p3_matrix.proofs.TwoPowers.{log_of_height}
 use Rattle.p3_matrix.proofs.bitrev.BitReversedMatrixView+RowMajorMatrix+T.row.Goals as goal
 
 pub reverse_bits_len-requires : goal.reverse_bits_len-requires

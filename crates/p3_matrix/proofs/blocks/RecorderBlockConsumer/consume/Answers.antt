@@ -1,7 +1,5 @@
-use Rattle.std.proofs.Common.{◌-◌, length, refl, ap, arith, ◌∙◌}
-use Rattle.p3_matrix.specs.Consumers.{HasRoom}
+use Rattle.p3_matrix.proofs.Lemmas.{◌-◌, length, refl, ap, arith, ◌∙◌, HasRoom, length-append}
 use Rattle.p3_matrix.proofs.Recordings.{one_more_block, one_more_place}
-use Rattle.std.proofs.lemmas.List.{length-append}
 use Rattle.p3_matrix.proofs.blocks.RecorderBlockConsumer.consume.Goals as goal
 
 pub returns : goal.returns

@@ -1,5 +1,4 @@
-use Rattle.std.proofs.Common.{◌*◌, length, sym, ap, ◌∙◌, arith}
-use Rattle.p3_matrix.proofs.RowsByPacks.{rows_in_parts, products_in_parts}
+use Rattle.p3_matrix.proofs.Lemmas.{◌*◌, length, sym, ap, ◌∙◌, arith, rows_in_parts, products_in_parts}
 use Rattle.p3_matrix.proofs.butterflies.Butterfly.apply_to_rows_oop.Goals as goal
 
 pub apply_to_packs_oop-requires-2-clause-whole : goal.apply_to_packs_oop-requires-2-clause-whole

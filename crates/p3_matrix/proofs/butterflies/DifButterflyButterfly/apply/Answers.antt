@@ -1,6 +1,4 @@
-use Rattle.std.proofs.Common.{map, ◌∙◌}
-use Rattle.p3_field.specs.Ring.{minus}
-use Rattle.p3_matrix.proofs.Lanes.{map-by_lanes}
+use Rattle.p3_matrix.proofs.Lemmas.{map, ◌∙◌, minus, map-by_lanes}
 use Rattle.p3_matrix.proofs.butterflies.DifButterflyButterfly.apply.Goals as goal
 
 pub returns-clause-far : goal.returns-clause-far

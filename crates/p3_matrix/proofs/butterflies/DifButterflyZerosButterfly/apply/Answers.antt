@@ -1,5 +1,4 @@
-use Rattle.std.proofs.Common.{map, sym, ◌∙◌}
-use Rattle.p3_matrix.proofs.Lanes.{by_lanes_of_left, by_lanes_is_left, equal_lanes}
+use Rattle.p3_matrix.proofs.Lemmas.{map, sym, ◌∙◌, by_lanes_of_left, by_lanes_is_left, equal_lanes}
 use Rattle.p3_matrix.proofs.butterflies.DifButterflyZerosButterfly.apply.Goals as goal
 
 pub returns-clause-near : goal.returns-clause-near

@@ -1,7 +1,4 @@
-use Rattle.std.proofs.Common.{map, ap, ◌∙◌}
-use Rattle.p3_field.specs.Ring.{minus}
-use Rattle.p3_field.specs.Lanes.{by_lanes}
-use Rattle.p3_matrix.proofs.Lanes.{by_lanes-map_right}
+use Rattle.p3_matrix.proofs.Lemmas.{map, ap, ◌∙◌, minus, by_lanes, by_lanes-map_right}
 use Rattle.p3_matrix.proofs.butterflies.DitButterflyButterfly.apply.Goals as goal
 
 pub returns-clause-near : goal.returns-clause-near

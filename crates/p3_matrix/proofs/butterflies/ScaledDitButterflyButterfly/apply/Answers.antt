@@ -1,8 +1,4 @@
-use Rattle.std.proofs.Common.{map, ap₂, ◌∙◌}
-use Rattle.p3_field.specs.Ring.{minus}
-use Rattle.p3_field.specs.Lanes.{by_lanes}
-use Rattle.p3_matrix.specs.Butterflies.{scaled_dit_near, scaled_dit_far}
-use Rattle.p3_matrix.proofs.Lanes.{by_lanes-mapped}
+use Rattle.p3_matrix.proofs.Lemmas.{map, ap₂, ◌∙◌, minus, by_lanes, scaled_dit_near, scaled_dit_far, by_lanes-mapped}
 use Rattle.p3_matrix.proofs.ButterflyLaws.{scaled_near, scaled_far}
 use Rattle.p3_matrix.proofs.butterflies.ScaledDitButterflyButterfly.apply.Goals as goal
 

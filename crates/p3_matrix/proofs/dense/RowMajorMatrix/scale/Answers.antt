@@ -1,5 +1,4 @@
-use Rattle.p3_matrix.proofs.RowExchanges.{all_written}
-use Rattle.std.proofs.Common.{ap, length, map, ◌∙◌}
+use Rattle.p3_matrix.proofs.Lemmas.{all_written, ap, length, map, ◌∙◌}
 use Rattle.p3_matrix.proofs.dense.RowMajorMatrix.scale.Goals as goal
 
 pub returns-clause-values : goal.returns-clause-values

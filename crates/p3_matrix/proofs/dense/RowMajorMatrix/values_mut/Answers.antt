@@ -1,5 +1,4 @@
-use Rattle.p3_matrix.proofs.RowMajor.{taken_whole}
-use Rattle.std.proofs.Common.{sym}
+use Rattle.p3_matrix.proofs.Lemmas.{taken_whole, sym}
 use Rattle.p3_matrix.proofs.dense.RowMajorMatrix.values_mut.Goals as goal
 
 pub invariant_of-self-lent : goal.invariant_of-self-lent

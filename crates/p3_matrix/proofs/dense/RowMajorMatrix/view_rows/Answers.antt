@@ -1,5 +1,4 @@
-use Rattle.std.proofs.Common.{arith, rules, length, Fits-le}
-use Rattle.p3_matrix.proofs.RowMajor.{rows_within, whole_part}
+use Rattle.p3_matrix.proofs.Lemmas.{arith, rules, length, Fits-le, rows_within, whole_part}
 use Rattle.p3_matrix.proofs.dense.RowMajorMatrix.view_rows.Goals as goal
 
 pub slice_bounds-new-end : goal.slice_bounds-new-end
