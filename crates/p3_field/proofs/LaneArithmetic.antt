@@ -2,7 +2,8 @@
 use Rattle.p3_field.proofs.Names.{◌≡◌, ℕ, zero, suc, ◌+◌, ◌-◌, ◌*◌, ◌/◌, ◌%◌, ◌<◌, ◌≤◌, ◌^◌, Bool, true, false, cond, List, [], ◌∷◌, length, map, replicate}
 use Rattle.p3_field.proofs.Names.{refl, sym, ap, ap₂, ◌∙◌, arith, ⊎_elim, lit<, ltb, mod-eq_of_lt, mod-lt, add-mod_right, add-mul-mod_self_right, mod-add-div'}
 use Rattle.p3_field.proofs.Names.{mul-le-mul, mul-le-mul_right, div-lt_iff_lt-mul, mul-mod_first, cases_lt, lt-ltb, le-ltb, cond-true, cond-false, Each1, zip2}
-use Rattle.p3_field.proofs.Names.{sel_l, top, w32, w64, Fits, AreBelow, Fits-widen}
+use Rattle.p3_field.proofs.Names.{sel_l, top, w32, w64, Fits, AreBelow, Fits-widen, subst}
+use Rattle.p3_field.proofs.ResidueLanes.{each_below, pairs_below}
 
 -- what a lane's operations give, modulo 2^32
 abbrev wrapped_sum : ℕ → ℕ → ℕ
@@ -27,6 +28,10 @@ lesser_first x y l = chosen (ltb x y) x y ∙ cond-true (ltb x y) x y (lt-ltb x 
 
 lesser_second : (x y : ℕ) → y ≤ x → cond (top 31 (less_mask x y)) x y ≡ y
 lesser_second x y l = chosen (ltb x y) x y ∙ cond-false (ltb x y) x y (le-ltb x y l)
+
+-- the lesser of each two lanes
+abbrev least_of : List ℕ → List ℕ → List ℕ
+least_of xs ys = sel_l (map (top 31) (zip2 less_mask xs ys)) xs ys
 
 module _ (m : ℕ) (above : 1 < m) (small : m < 2147483648) where
   -- ---- one lane
@@ -60,21 +65,29 @@ module _ (m : ℕ) (above : 1 < m) (small : m < 2147483648) where
 
   -- ---- all lanes
   pub remainders_of_lanes : (xs : List ℕ) (n : ℕ) → length xs ≡ n → AreBelow (m + m) xs
-      → sel_l (map (top 31) (zip2 less_mask xs (zip2 wrapped_difference xs (replicate n m)))) xs
-      (zip2 wrapped_difference xs (replicate n m))
-      ≡ map (λ x. x % m) xs
+      → least_of xs (zip2 wrapped_difference xs (replicate n m)) ≡ map (λ x. x % m) xs
   remainders_of_lanes [] n e below = refl
   remainders_of_lanes (x ∷ xs) zero e below = absurd (omega (arith, e))
   remainders_of_lanes (x ∷ xs) (suc n) e below = ap₂ ◌∷◌ (lane_remainder x below.0) (remainders_of_lanes xs n (omega (arith, e)) below.1)
 
   pub differences_of_lanes : (xs ys : List ℕ) (n : ℕ) → length xs ≡ n → AreBelow m xs → AreBelow m ys
-      → sel_l (map (top 31) (zip2 less_mask (zip2 wrapped_difference xs ys) (zip2 wrapped_sum (zip2 wrapped_difference xs ys) (replicate n m))))
-      (zip2 wrapped_difference xs ys) (zip2 wrapped_sum (zip2 wrapped_difference xs ys) (replicate n m))
+      → least_of (zip2 wrapped_difference xs ys) (zip2 wrapped_sum (zip2 wrapped_difference xs ys) (replicate n m))
       ≡ zip2 (λ x y. (x + (m - y)) % m) xs ys
   differences_of_lanes [] ys n e a b = refl
   differences_of_lanes (x ∷ xs) [] n e a b = refl
   differences_of_lanes (x ∷ xs) (y ∷ ys) zero e a b = absurd (omega (arith, e))
   differences_of_lanes (x ∷ xs) (y ∷ ys) (suc n) e a b = ap₂ ◌∷◌ (lane_difference x y a.0 b.0) (differences_of_lanes xs ys n (omega (arith, e)) a.1 b.1)
+
+  -- remainders are below the modulus
+  pub remainders_below : (xs : List ℕ) (n : ℕ) → length xs ≡ n → AreBelow (m + m) xs → AreBelow m (least_of xs (zip2 wrapped_difference xs (replicate n m)))
+  remainders_below xs n e below =
+      subst (AreBelow m) (sym (remainders_of_lanes xs n e below)) (each_below (λ x. x % m) (λ x. mod-lt x (omega (arith, above))) xs)
+
+  pub differences_below : (xs ys : List ℕ) (n : ℕ) → length xs ≡ n → AreBelow m xs → AreBelow m ys
+      → AreBelow m (least_of (zip2 wrapped_difference xs ys) (zip2 wrapped_sum (zip2 wrapped_difference xs ys) (replicate n m)))
+  differences_below xs ys n e a b =
+      subst (AreBelow m) (sym (differences_of_lanes xs ys n e a b))
+      (pairs_below (λ x y. (x + (m - y)) % m) (λ x y. mod-lt (x + (m - y)) (omega (arith, above))) xs ys)
 
   -- with the modulus added, a difference does not wrap
   pub loose_differences_of_lanes : (xs ys : List ℕ) (n : ℕ) → length xs ≡ n → AreBelow m xs → AreBelow m ys
@@ -101,7 +114,7 @@ module _ (m : ℕ) (above : 1 < m) (small : m < 2147483648) where
 
 -- ---- products with one factor t: q is the quotient of t, and e the quotient of x times t that q estimates
 abbrev quotient_of : ℕ → ℕ → ℕ
-quotient_of m t = (t * 4294967296) % 18446744073709551616 / m % 4294967296
+quotient_of m t = t * 4294967296 / m
 
 abbrev estimate : ℕ → ℕ → ℕ
 estimate x q = x * q / 4294967296
@@ -110,9 +123,9 @@ abbrev rest_of_estimate : ℕ → ℕ → ℕ → ℕ → ℕ
 rest_of_estimate m t q x = wrapped_difference (wrapped_product x t) (wrapped_product (estimate x q) m)
 
 module _ (m : ℕ) (above : 1 < m) (small : m < 2147483648) (t : ℕ) (factor : t < m) where
-  -- the quotient of t without the words' ends
-  quotient_is : quotient_of m t ≡ t * 4294967296 / m
-  quotient_is =
+  -- words of 64 and of 32 bits hold it
+  pub quotient_of_words : (t * 4294967296) % 18446744073709551616 / m % 4294967296 ≡ quotient_of m t
+  quotient_of_words =
       let word : (t * 4294967296) % 18446744073709551616 ≡ t * 4294967296 = omega (arith, factor, small) in
       ap (λ n. n / m % 4294967296) word ∙ mod-eq_of_lt ((div-lt_iff_lt-mul {k = m} (omega (arith, above))).1 (omega (arith, factor)))
 
@@ -123,7 +136,7 @@ module _ (m : ℕ) (above : 1 < m) (small : m < 2147483648) (t : ℕ) (factor : 
       let e : ℕ = estimate x q in
       let s : ℕ = (t * 4294967296) % m in
       let u : ℕ = (x * q) % 4294967296 in
-      let factor_parts : s + q * m ≡ t * 4294967296 = ap (λ k. s + k * m) quotient_is ∙ mod-add-div' (t * 4294967296) m in
+      let factor_parts : s + q * m ≡ t * 4294967296 = mod-add-div' (t * 4294967296) m in
       let x_word : x ≤ 4294967295 = omega (arith, below) in
       let parts : u + e * 4294967296 ≡ x * q = mod-add-div' (x * q) 4294967296 in
       let u_word : u ≤ 4294967295 = omega arith in

@@ -11,7 +11,7 @@ pub use Rattle.std.proofs.lemmas.List.{get_or-map, get_or_append_left, get_or_pu
 pub use Rattle.std.proofs.lemmas.List.FromFn.{get_or-map-range_with_len}
 pub use Rattle.std.proofs.lemmas.Nat.{and_mask, mul-mod, mul-mod_first}
 pub use Rattle.std.proofs.lemmas.Nat.Gcd.{dvd_trans}
-pub use Rattle.std.proofs.lemmas.Simd.{length-zip2, map-map, zip2_splat}
+pub use Rattle.std.proofs.lemmas.Simd.{map-map, zip2_splat}
 pub use Rattle.std.specs.Int.{IsGcd, ◌∣◌}
 pub use Rattle.std.specs.List.{FoldsTo, range_with_len}
 pub use Rattle.std.specs.Simd.Lanes.{Each1, digits_l, number_l, pick_l, sel_l, top, zip2}

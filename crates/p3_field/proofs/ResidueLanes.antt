@@ -1,7 +1,7 @@
 -- Residues in the lanes of a packed value: what is known of their numbers is known of them.
 use Rattle.p3_field.proofs.Names.{◌≡◌, ℕ, zero, suc, ◌+◌, ◌-◌, ◌*◌, ◌<◌, ◌≤◌, List, [], ◌∷◌, ◌++◌, length, map, get_or, set, drop, refl, sym, ap, ap₂, ◌∙◌}
-use Rattle.p3_field.proofs.Names.{subst, ⊎_elim, arith, get_or-append-add, get_or_append_left, length-map, map-append, map-id, length-zip2, cases_lt, Each1}
-use Rattle.p3_field.proofs.Names.{zip2, by_lanes, AreBelow, elements_of, length-elements_of, Residue, residue-eq}
+use Rattle.p3_field.proofs.Names.{subst, ⊎_elim, arith, get_or-append-add, get_or_append_left, map-append, map-id, cases_lt, Each1, zip2, by_lanes, AreBelow}
+use Rattle.p3_field.proofs.Names.{elements_of, length-elements_of, Residue, residue-eq}
 use Rattle.p3_field.proofs.Lists.{all_entries}
 
 -- lists of eight
@@ -172,15 +172,6 @@ module _ {m : ℕ} where
   each_below f all [] = tt
   each_below f all (x ∷ xs) = (all x, each_below f all xs)
 
-  -- so n of them are the lanes of a packed value
-  pub pairs_packed : (f : ℕ → ℕ → ℕ) → ((x y : ℕ) → f x y < m) → (n : ℕ) (xs ys zs : List ℕ) → length xs ≡ n
-      → length ys ≡ n → zs ≡ zip2 f xs ys → AreBelow m zs × (length zs ≡ n)
-  pairs_packed f all n xs ys zs first second is =
-      (subst (AreBelow m) (sym is) (pairs_below f all xs ys), ap length is ∙ length-zip2 f xs ys (first ∙ sym second) ∙ first)
-
-  pub each_packed : (f : ℕ → ℕ) → ((x : ℕ) → f x < m) → (n : ℕ) (xs zs : List ℕ) → length xs ≡ n → zs ≡ map f xs → AreBelow m zs × (length zs ≡ n)
-  each_packed f all n xs zs long is = (subst (AreBelow m) (sym is) (each_below f all xs), ap length is ∙ length-map xs f ∙ long)
-
   numbers_by_lanes : (op : Residue m → Residue m → Residue m) (f : ℕ → ℕ → ℕ) → ((x y : Residue m) → (op x y).number ≡ f x.number y.number)
       → (xs ys : List (Residue m)) → numbers (by_lanes op xs ys) ≡ zip2 f (numbers xs) (numbers ys)
   numbers_by_lanes op f law [] ys = refl
@@ -213,6 +204,17 @@ module _ {m : ℕ} where
         same_numbers _ _ (numbers_of_elements zs c ∙ is
         ∙ sym
         (numbers_of_each op f law (map value (elements_of make xs a)) ∙ ap (map f) (numbers_of_elements xs a)))
+
+    pub lanes_of_each_pair : (op : Residue m → Residue m → Residue m) (f : ℕ → ℕ → ℕ) → ((x y : Residue m) → (op x y).number ≡ f x.number y.number)
+        → (each : Residue m → Residue m) (h : ℕ → ℕ) → ((x : Residue m) → (each x).number ≡ h x.number)
+        → (xs ys zs : List ℕ) (a : AreBelow m xs) (b : AreBelow m ys) (c : AreBelow m zs) → zs ≡ map h (zip2 f xs ys)
+        → map value (elements_of make zs c) ≡ map each (by_lanes op (map value (elements_of make xs a)) (map value (elements_of make ys b)))
+    lanes_of_each_pair op f law each h each_law xs ys zs a b c is =
+        let first = map value (elements_of make xs a) in
+        let second = map value (elements_of make ys b) in
+        same_numbers _ _ (numbers_of_elements zs c ∙ is
+        ∙ sym (numbers_of_each each h each_law (by_lanes op first second) ∙ ap (map h) (numbers_by_lanes op f law first second
+        ∙ ap₂ (zip2 f) (numbers_of_elements xs a) (numbers_of_elements ys b))))
 
     -- lanes in two halves, as two parts of a slice have them
     pub joined_lanes : (xs ys zs : List ℕ) (a : AreBelow m xs) (b : AreBelow m ys) (c : AreBelow m zs) → zs ≡ xs ++ ys

@@ -21,6 +21,7 @@ pub mod fields;
 pub mod goldilocks;
 pub mod goldilocks_x8;
 pub mod koala_bear;
+mod lane_residues;
 pub mod lanes;
 pub mod packed;
 pub mod power_iterator;

@@ -5,6 +5,9 @@ ghost use Rattle.std.specs.Simd.Lanes.{zip2};
 ghost use Rattle.p3_field.specs.LaneNumbers.{AreBelow};
 ghost use Rattle.p3_field.specs.LaneLaws.{are_below-prop};
 
+use crate::lane_residues::{
+    differences, estimated_multiples, lane_products, loose_differences, quotient, sums,
+};
 use crate::packed::{PackedField, Products};
 use crate::residue31::{Numbers, Residue31};
 use crate::residue31_x8::Residue31X8;
@@ -118,14 +121,14 @@ impl<N: Numbers> PackedField for Residue31X16<N> {
 
     fn add(self, other: Residue31X16<N>) -> Residue31X16<N> {
         Residue31X16 {
-            lanes: sums::<N>(self.lanes, other.lanes),
+            lanes: sums::<N, 16>(self.lanes, other.lanes),
             of: PhantomData,
         }
     }
 
     fn sub(self, other: Residue31X16<N>) -> Residue31X16<N> {
         Residue31X16 {
-            lanes: differences::<N>(self.lanes, other.lanes),
+            lanes: differences::<N, 16>(self.lanes, other.lanes),
             of: PhantomData,
         }
     }
@@ -147,7 +150,10 @@ impl<N: Numbers> PackedField for Residue31X16<N> {
     ) -> Residue31X16<N> {
         products.rise(16);
         Residue31X16 {
-            lanes: multiples::<N>(loose_differences::<N>(self.lanes, other.lanes), t.number),
+            lanes: multiples::<N>(
+                loose_differences::<N, 16>(self.lanes, other.lanes),
+                t.number,
+            ),
             of: PhantomData,
         }
     }
@@ -155,55 +161,12 @@ impl<N: Numbers> PackedField for Residue31X16<N> {
     fn multiplied(self, other: Residue31X16<N>, products: &mut Products) -> Residue31X16<N> {
         products.rise(16);
         Residue31X16 {
-            lanes: lane_products::<N>(self.lanes, other.lanes),
+            lanes: lane_products::<N, 16>(self.lanes, other.lanes),
             of: PhantomData,
         }
     }
 
     ghost width_law = { λ x. length-elements_of _ x.lanes x.below ∙ x.sixteen };
-}
-
-// The remainder of each lane, which is below twice the modulus: where a lane is below the modulus,
-// taking it away wraps to a larger number.
-#[inline(always)]
-fn remainders<N: Numbers>(x: u32x16) -> u32x16
-    requires { AreBelow (N.numbers.modulus + N.numbers.modulus) x }
-    ensures { result ≡ map (λ n. n % N.numbers.modulus) x }
-{
-    x.simd_min(x - u32x16::splat(N::MODULUS))
-}
-
-// The sum of each two lanes below the modulus.
-#[inline(always)]
-fn sums<N: Numbers>(a: u32x16, b: u32x16) -> u32x16
-    requires first { AreBelow N.numbers.modulus a }
-    requires second { AreBelow N.numbers.modulus b }
-    ensures { result ≡ zip2 (λ x y. (x + y) % N.numbers.modulus) a b }
-{
-    remainders::<N>(a + b)
-}
-
-// The difference of each two lanes below the modulus: where it is negative, it wraps to a larger
-// number than with the modulus added.
-#[inline(always)]
-fn differences<N: Numbers>(a: u32x16, b: u32x16) -> u32x16
-    requires first { AreBelow N.numbers.modulus a }
-    requires second { AreBelow N.numbers.modulus b }
-    ensures { result ≡ zip2 (λ x y. (x + (N.numbers.modulus - y)) % N.numbers.modulus) a b }
-{
-    let difference = a - b;
-    difference.simd_min(difference + u32x16::splat(N::MODULUS))
-}
-
-// The difference of each two lanes below the modulus, with the modulus added: no lane of it is negative,
-// and all are below twice the modulus.
-#[inline(always)]
-fn loose_differences<N: Numbers>(a: u32x16, b: u32x16) -> u32x16
-    requires first { AreBelow N.numbers.modulus a }
-    requires second { AreBelow N.numbers.modulus b }
-    ensures { result ≡ zip2 (λ x y. x + (N.numbers.modulus - y)) a b }
-{
-    (a - b) + u32x16::splat(N::MODULUS)
 }
 
 // The upper half of the product of each lane and a factor, without widening the vector: a lane in an even place is
@@ -224,30 +187,13 @@ fn upper_halves(a: u32x16, factor: u64) -> u32x16
     )
 }
 
-// The product of each lane, which may be any number, and t, below the modulus. The quotient of a product is
-// estimated by that of t, which is one division for all lanes; the estimate is one too small at most.
+// The product of each lane, which may be any number, and t, below the modulus.
 #[inline(always)]
 fn multiples<N: Numbers>(a: u32x16, t: u32) -> u32x16
     requires { t < N.numbers.modulus }
-    ensures { result ≡ map (λ x. (x * t) % N.numbers.modulus) a }
+    ensures value { result ≡ map (λ x. (x * t) % N.numbers.modulus) a }
+    ensures below { AreBelow N.numbers.modulus result }
 {
-    let quotient = ((t as u64) << 32) / N::MODULUS as u64 % 4294967296;
-    let estimate = upper_halves(a, quotient);
-    remainders::<N>(a * u32x16::splat(t) - estimate * u32x16::splat(N::MODULUS))
-}
-
-// The product of each two lanes below the modulus. The quotient of a product is estimated by its
-// upper digits and the reciprocal of the modulus; the estimate is one too small at most.
-#[inline(always)]
-fn lane_products<N: Numbers>(a: u32x16, b: u32x16) -> u32x16
-    requires first { AreBelow N.numbers.modulus a }
-    requires second { AreBelow N.numbers.modulus b }
-    ensures { result ≡ zip2 (λ x y. (x * y) % N.numbers.modulus) a b }
-{
-    let modulus = N::MODULUS as u64;
-    let reciprocal = 4611686018427387904 / modulus % 4294967296;
-    let product = a.cast::<u64>() * b.cast::<u64>();
-    let upper = (product >> u64x16::splat(30)).cast::<u32>();
-    let estimate = (upper.cast::<u64>() * u64x16::splat(reciprocal)) >> u64x16::splat(32);
-    remainders::<N>((product - estimate * u64x16::splat(modulus)).cast::<u32>())
+    let estimate = upper_halves(a, quotient::<N>(t));
+    estimated_multiples::<N, 16>(a, t, estimate)
 }

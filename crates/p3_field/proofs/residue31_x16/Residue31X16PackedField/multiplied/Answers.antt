@@ -1,17 +1,8 @@
-use Rattle.p3_field.proofs.Lemmas.{◌<◌, arith, ◌*◌, ◌%◌, refl, mod-lt, lanes_of_pairs, pairs_packed}
+use Rattle.p3_field.proofs.Lemmas.{◌*◌, ◌%◌, refl, lanes_of_pairs}
 use Rattle.p3_field.proofs.residue31_x16.Residue31X16PackedField.multiplied.Goals as goal
-
-pub invariant_of-result : goal.invariant_of-result
-invariant_of-result g c =
-    let m = g.N.Numbers.numbers.modulus in
-    let positive : 0 < m = omega (arith, g.N.Numbers.numbers.above) in
-    let packed =
-    pairs_packed (λ x y. (x * y) % m) (λ x y. mod-lt (x * y) positive) 16 c.args.self.lanes c.args.other.lanes _
-    c.args.self.sixteen c.args.other.sixteen c.lane_products.ensures in
-    record { below = packed.0; sixteen = packed.1 }
 
 pub returns-clause-lanes : goal.returns-clause-lanes
 returns-clause-lanes g c =
     let m = g.N.Numbers.numbers.modulus in
     lanes_of_pairs _ _ (λ n h. refl) _ (λ x y. (x * y) % m) (λ x y. refl) c.args.self.lanes c.args.other.lanes
-    c.lane_products.result c.args.self.below c.args.other.below _ c.lane_products.ensures
+    c.lane_products.result c.args.self.below c.args.other.below _ c.lane_products.ensures.value
