@@ -5,15 +5,18 @@ ghost use Rattle.std.specs.Prelude.{◌≡◌, ℕ, ◌+◌, ◌*◌, ◌/◌, �
 ghost use Rattle.p3_field.specs.Ring.{power};
 ghost use Rattle.p3_matrix.specs.BitOrder.{rev};
 ghost use Rattle.p3_matrix.specs.Cosets.{point};
-ghost use Rattle.p3_networks.specs.Layers.{AreValuesOfRows};
+ghost use Rattle.p3_networks.specs.Counts.{RisesAtMost};
+ghost use Rattle.p3_networks.specs.Layers.{AreRows, AreValuesOfRows};
+ghost use Rattle.p3_networks.specs.Slots.{CanExtend};
 ghost use Rattle.p3_matrix.specs.Polynomials.{poly};
 ghost use Rattle.p3_networks.specs.Twiddles.{AreTwiddlesFromStart, block_powers, forward_root};
 
+use crate::chunks::{ChunkWork, on_each_chunk};
 use crate::groups::Tiling;
+use crate::radix_2_dit_parallel::coset_tables::slot_shift;
 use crate::shifts::{copy_shifted, shift_values};
 use crate::tiles::dit_network_to_reversed;
 use p3_field::{Products, TwoAdicField};
-use p3_matrix::reverse_bits_len;
 
 /// From coefficients in natural order, which are the first slot, their values on the coset of `shift` of
 /// order `2^(log_h + added_bits)`, in bit reversed order. Slot m is the coset of `shift` times the power
@@ -49,56 +52,53 @@ pub fn slots_network<F: TwoAdicField>(
 {
     let slots = 1usize << added_bits;
     let size = values.len() / slots;
-    let root = F::two_adic_generator(log_h + added_bits);
     let (coefficients, others) = values.split_at_mut(size);
-    for place in 0..slots - 1 {
-        let start = place * size;
-        let slot = &mut others[start..start + size];
-        let turn = root.exp_u64(reverse_bits_len(place + 1, added_bits) as u64);
-        evaluate_to_reversed_oop(
-            twiddles,
-            coefficients,
-            slot,
-            width,
-            tiling,
-            log_h,
-            shift * turn,
-            products,
-        );
-    }
+    let work = OtherSlots {
+        twiddles,
+        coefficients: &*coefficients,
+        width,
+        tiling,
+        log_h,
+        added_bits,
+        shift,
+    };
+    on_each_chunk(work, others, size, slots - 1, products);
     shift_values(coefficients, width, 1 << log_h, shift, products);
     evaluate_to_reversed(twiddles, coefficients, width, tiling, log_h, products);
 }
 
-// From coefficients in natural order, which lie in another slice, their values on the coset of `shift`
-// that has as many points, in bit reversed order.
-fn evaluate_to_reversed_oop<F: TwoAdicField>(
-    twiddles: &[F],
-    coefficients: &[F],
-    values: &mut [F],
+// The slots behind the first one: each chunk gets the values on the coset of its slot.
+#[derive(Drop)]
+struct OtherSlots<'a, F> {
+    twiddles: &'a [F],
+    coefficients: &'a [F],
     width: usize,
     tiling: Tiling,
     log_h: usize,
+    added_bits: usize,
     shift: F,
-    products: &mut Products,
-)
-    requires width { 1 ≤ width }
-    requires below { tiling.log_rows ≤ log_h }
-    requires within { log_h ≤ F.TWO_ADICITY }
-    requires fits_u64 { log_h < 64 }
-    requires piece { 1 ≤ tiling.piece }
-    requires source { length coefficients.now ≡ 2 ^ log_h * width }
-    requires size { length values.old ≡ 2 ^ log_h * width }
-    requires twiddles { AreTwiddlesFromStart F.Valued.own log_h
-        (block_powers F.Valued.own (forward_root F.Valued.own F.generator)) twiddles.now }
-    ensures values { (r j : ℕ) → r < 2 ^ log_h → j < width → F.value (get_or values.new (r * width + j) F.zero)
-        ≡ poly F.ring (2 ^ log_h) (λ q. F.value (get_or coefficients.now (q * width + j) F.zero))
-        (point F.ring (forward_root F.Valued.own F.generator) log_h (F.value shift) (rev log_h r)) }
-    ensures grows { products.old ≤ products.new }
-    ensures cost { products.new ≤ products.old + (width * (log_h * 2 ^ log_h / 2) + 2 ^ log_h * width) }
-{
-    copy_shifted(coefficients, values, width, 1 << log_h, shift, products);
-    evaluate_to_reversed(twiddles, values, width, tiling, log_h, products);
+}
+
+impl<F: TwoAdicField> ChunkWork<F> for OtherSlots<'_, F> {
+    ghost accepts = { λ it n size. CanExtend F.Valued.own F.generator F.TWO_ADICITY it.log_h it.added_bits it.width
+        it.tiling.log_rows it.tiling.piece it.twiddles.now it.coefficients.now (n + 1) size };
+
+    ghost takes = { λ it n before after. (t j : ℕ) → t < 2 ^ it.log_h → j < it.width
+        → F.value (get_or after (t * it.width + j) F.zero)
+        ≡ poly F.ring (2 ^ it.log_h) (λ q. F.value (get_or it.coefficients.now (q * it.width + j) F.zero))
+        (point F.ring (forward_root F.Valued.own F.generator) (it.log_h + it.added_bits) (F.value it.shift)
+        (rev (it.log_h + it.added_bits) ((n + 1) * 2 ^ it.log_h + t))) };
+
+    ghost cost = { λ it size. 2 * (it.width * (it.log_h * 2 ^ it.log_h / 2) + 2 ^ it.log_h * it.width) };
+
+    #[inline(always)]
+    fn on_chunk(&self, number: usize, chunk: &mut [F], products: &mut Products) {
+        let width = self.width;
+        let log_h = self.log_h;
+        let shift = slot_shift(log_h, self.added_bits, self.shift, number + 1);
+        copy_shifted(self.coefficients, chunk, width, 1 << log_h, shift, products);
+        evaluate_to_reversed(self.twiddles, chunk, width, self.tiling, log_h, products);
+    }
 }
 
 // From rows in natural order to their values on the subgroup, in bit reversed order. A single row has no
@@ -111,18 +111,15 @@ fn evaluate_to_reversed<F: TwoAdicField>(
     log_h: usize,
     products: &mut Products,
 )
-    requires width { 1 ≤ width }
+    requires rows { AreRows log_h width (length values.old) }
     requires below { tiling.log_rows ≤ log_h }
-    requires within { log_h ≤ F.TWO_ADICITY }
-    requires fits_u64 { log_h < 64 }
     requires piece { 1 ≤ tiling.piece }
-    requires size { length values.old ≡ 2 ^ log_h * width }
+    requires within { log_h ≤ F.TWO_ADICITY }
     requires twiddles { AreTwiddlesFromStart F.Valued.own log_h
         (block_powers F.Valued.own (forward_root F.Valued.own F.generator)) twiddles.now }
     ensures values { AreValuesOfRows F.Valued.own width (2 ^ log_h) (λ q. q)
         (λ r. power F.ring (forward_root F.Valued.own F.generator log_h) (rev log_h r)) values.old values.new }
-    ensures grows { products.old ≤ products.new }
-    ensures cost { products.new ≤ products.old + width * (log_h * 2 ^ log_h / 2) }
+    ensures cost { RisesAtMost (width * (log_h * 2 ^ log_h / 2)) products.old products.new }
 {
     if log_h > 0 {
         let Tiling { log_rows, piece } = tiling;
