@@ -1,5 +1,5 @@
 -- Slots of an extension: each holds the values on a coset of its own.
-use Rattle.std.specs.Prelude.{◌≡◌, ℕ, ◌+◌, ◌*◌, ◌^◌, ◌<◌, ◌≤◌, List, length, get_or, map, Result, MatchResult, ⊤}
+use Rattle.std.specs.Prelude.{◌≡◌, ℕ, ◌+◌, ◌*◌, ◌^◌, ◌<◌, ◌≤◌, List, get_or, map, Result, MatchResult, ⊤}
 use Rattle.std.specs.List.{range_with_len}
 use Rattle.p3_field.specs.declared.fields.Valued.{Ghosts as FieldMembers}
 use Rattle.p3_matrix.specs.BitOrder.{rev}
@@ -9,19 +9,15 @@ use Rattle.p3_matrix.specs.RowMajor.{RowMajor, rows_from}
 use Rattle.p3_matrix.specs.Cosets.{point}
 use Rattle.p3_matrix.specs.Polynomials.{poly}
 use Rattle.p3_networks.specs.Layers.{AreRows}
-use Rattle.p3_networks.specs.Twiddles.{AreTwiddlesFromStart, block_powers, forward_root}
+use Rattle.p3_networks.specs.Twiddles.{forward_root}
 
--- coefficients of 2 ^ k rows of w entries can be extended by a bits to slot m, of n entries: twiddles serve a slot, which has tiles of
--- 2 ^ r rows, and pieces have so many cells
-pub record CanExtend {F : Type 0} (f : FieldMembers F) (generator : ℕ → F) (most k a w r cells : ℕ) (table coefficients : List F) (m n : ℕ) : Type 0 where
+-- slot m of an extension of 2 ^ k rows of w entries by a bits has n entries, as many as the coefficients
+pub record IsSlot (most k a w coefficients m n : ℕ) : Type 0 where
   pub rows : AreRows k w n
   pub slot : m < 2 ^ a
-  pub source : length coefficients ≡ n
-  pub below : r ≤ k
-  pub piece : 1 ≤ cells
+  pub source : coefficients ≡ n
   pub within : k + a ≤ most
   pub fits_u64 : k + a < 64
-  pub twiddles : AreTwiddlesFromStart f k (block_powers f (forward_root f generator)) table
 
 -- rows of w entries, from row number `first` of a matrix on: the number of the first row of their block q of b rows, and its rows
 abbrev pub slot_block : {T : Type 0} → ℕ → ℕ → ℕ → List T → ℕ → ℕ × RowMajor T
@@ -30,6 +26,13 @@ slot_block first b w rows q = (first + q * b, rows_from (record { width = w; val
 -- the first n blocks
 abbrev pub slot_blocks : {T : Type 0} → ℕ → ℕ → ℕ → List T → ℕ → List (ℕ × RowMajor T)
 slot_blocks first b w rows n = map (slot_block first b w rows) (range_with_len 0 n)
+
+-- how the rows of chunks are lent: number `first` is the first row of all, and a chunk has so many blocks of so many rows of so many entries
+pub record BlockShape : Type 0 where
+  pub first : ℕ
+  pub blocks : ℕ
+  pub rows : ℕ
+  pub width : ℕ
 
 -- n blocks of rows are lent, one after another, up to one that is refused; with the first m blocks final, `done m` holds
 abbrev pub LentInBlocks : {T C R : Type 0} → (C → ℕ → RowMajor T → Result ⊤ R → C → Type 0) → ℕ → ℕ → ℕ → ℕ

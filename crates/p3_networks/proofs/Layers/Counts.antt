@@ -1,6 +1,7 @@
 -- What loops count at most, where each turn makes at most so many products.
 use Rattle.std.proofs.Common.{◌≡◌, ℕ, zero, suc, ◌+◌, ◌*◌, ◌-◌, ◌/◌, ◌^◌, ◌<◌, ◌≤◌, refl, sym, ap, ap₂, ◌∙◌, subst, arith, add-one}
 use Rattle.std.proofs.lemmas.Nat.{pow-add}
+use Rattle.p3_networks.specs.Counts.{RisesAtMost}
 use Rattle.std.proofs.Math.Nat.{suc-mul, mul-div_cancel, mul-le-mul_left, mul-le-mul_right}
 
 -- one turn more, of size pairs
@@ -14,9 +15,6 @@ count_more cost n size before now after so_far turn =
 -- the same where each turn makes one product for each cell, and where no more turns than that are done
 pub one_more : (n size before now after : ℕ) → now ≤ before + 1 * (n * size) → after ≤ now + size → after ≤ before + 1 * ((n + 1) * size)
 one_more n size before now after so_far turn = count_more 1 n size before now after so_far (omega (arith, turn))
-
-pub ones_all : (n turns size before after : ℕ) → n ≤ turns → after ≤ before + 1 * (n * size) → after ≤ before + turns * size
-ones_all n turns size before after done so_far = omega (arith, so_far, mul-le-mul_right size done)
 
 -- no turn, and so many turns when no more than that are done
 pub count_none : (cost size before : ℕ) → before ≤ before + cost * (0 * size)
@@ -41,6 +39,16 @@ turns_halved turns n size before after is made =
 -- what holds of so many turns, when a loop is over
 pub at_end : (P : ℕ → Type 0) (n turns : ℕ) → n ≤ turns → turns ≤ n → P n → P turns
 at_end P n turns most least so_far = let all : n ≡ turns = omega arith in subst P all so_far
+
+-- one turn more that makes at most so many, and no more turns than so many
+pub rises_joined : (n each made before now after : ℕ) → made ≡ each → RisesAtMost (n * each) before now → RisesAtMost made now after
+    → RisesAtMost ((n + 1) * each) before after
+rises_joined n each made before now after is so_far turn =
+    let next : (n + 1) * each ≡ n * each + each = omega arith in
+    record { grows = omega (arith, so_far.grows, turn.grows); cost = omega (arith, next, is, so_far.cost, turn.cost) }
+
+pub rises_within : (n turns each before after : ℕ) → n ≤ turns → RisesAtMost (n * each) before after → RisesAtMost (turns * each) before after
+rises_within n turns each before after few made = record { grows = made.grows; cost = omega (arith, made.cost, mul-le-mul_right each few) }
 
 -- a positive power of two is twice the one before
 pub two_halves : (k : ℕ) → (k ≡ 0 → ⊥) → 2 ^ k ≡ 2 * 2 ^ (k - 1)
@@ -180,15 +188,6 @@ fewer_than_parts k a w =
     let x = k * 2 ^ k / 2 in
     let spread : w * (x * (1 + 2 ^ a) + 2 ^ (k + a)) ≡ w * x + w * (2 ^ a * x) + 2 ^ (k + a) * w = omega arith in
     omega (arith, spread, layers_of_slots k a w)
-
--- slots whose rows are each multiplied once
-pub slots_made : (k a w before after : ℕ) → after ≤ before + 2 ^ a * (w * (k * 2 ^ k / 2) + 2 ^ k * w)
-    → after ≤ before + (w * ((k + a) * 2 ^ (k + a) / 2) + 2 ^ (k + a) * w)
-slots_made k a w before after made =
-    let x = k * 2 ^ k / 2 in
-    let spread : 2 ^ a * (w * x + 2 ^ k * w) ≡ w * (2 ^ a * x) + 2 ^ k * 2 ^ a * w = omega arith in
-    let rows : 2 ^ k * 2 ^ a * w ≡ 2 ^ (k + a) * w = ap (λ n. n * w) (sym (pow-add 2 k a)) in
-    omega (arith, made, spread, rows, layers_of_slots k a w)
 
 pub extension_made : (x y p w before middle after : ℕ) → middle ≤ before + w * x → after ≤ middle + w * (p * x + y) → after ≤ before + w * (x * (1 + p) + y)
 extension_made x y p w before middle after first second =

@@ -49,9 +49,3 @@ pub shifted_size : (len n size : ℕ) → n < 64 → len ≡ 2 ^ n * size → le
 shifted_size len n size small full =
     let count : one_shifted n ≡ 2 ^ n = one_shl n 64 small in
     block_size len (one_shifted n) size (omega (arith, count, pow_pos n)) (rw count full)
-
-pub shifted_room : (b len n size : ℕ) → n < 64 → len ≡ 2 ^ n * size → b < one_shifted n
-    → b * (len / one_shifted n) + len / one_shifted n ≤ len
-shifted_room b len n size small full below =
-    let count : one_shifted n ≡ 2 ^ n = one_shl n 64 small in
-    rw (shifted_size len n size small full) (block_room b (2 ^ n) size len (omega (arith, count, below)) full)

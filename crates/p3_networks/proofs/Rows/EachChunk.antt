@@ -71,6 +71,11 @@ module _ {T : Type 0} (d : T) (size : ℕ) where
               ∙ sym (drop-drop size (n * size) now) ∙ ap (drop size) so_far.rest ∙ drop-drop size (n * size) before ∙ ap (λ k. drop k before) (sym next);
         }
 
+  -- what holds of chunks that are done, if less is said of each
+  pub chunks_weaker : (P Q : ℕ → List T → List T → Type 0) (before : List T) (n : ℕ) (after : List T)
+      → ((p : ℕ) (xs ys : List T) → p < n → P p xs ys → Q p xs ys) → ChunksDone P before n after → ChunksDone Q before n after
+  chunks_weaker P Q before n after less so_far = record { len = so_far.len; done = λ p below. less p _ _ below (so_far.done p below); rest = so_far.rest }
+
   -- Where each chunk holds cells afterwards, if it held others before, so does the whole. The first cell of all is number `first`, and that of
   -- chunk n is `start n`, by its length.
   pub cells_of_chunks : {A : Type 0} (value_before value : T → A) (from to : ℕ → A) (first count : ℕ) (start : ℕ → ℕ → ℕ) (before after : List T)

@@ -1,7 +1,7 @@
 -- Blocks of rows that are lent to a consumer while other rows are still written.
 use Rattle.std.proofs.Common.{◌≡◌, ℕ, zero, suc, ◌+◌, ◌*◌, ◌-◌, ◌/◌, ◌%◌, ◌<◌, ◌≤◌, List, [], ◌∷◌, ◌++◌, length, get_or}
-use Rattle.std.proofs.Common.{map, take, drop, Result, Ok, refl, sym, ap, ap₂, ◌∙◌, subst, arith, rules, add-one}
-use Rattle.std.proofs.Common.{length-append, ⊎_elim}
+use Rattle.std.proofs.Common.{map, take, drop, Result, Ok, Err, refl, sym, ap, ap₂, ◌∙◌, subst, arith, rules, add-one}
+use Rattle.std.proofs.Common.{le_of_lt, le_refl, length-append, ⊎_elim}
 use Rattle.std.specs.Prelude.{⊤}
 use Rattle.std.specs.List.{range_with_len, between}
 use Rattle.std.proofs.Math.Nat.{mul-div_cancel, mul-le-mul_right, mul-mod_left}
@@ -10,15 +10,16 @@ use Rattle.std.proofs.lemmas.Fn.{FoldsTo-push}
 use Rattle.std.proofs.lemmas.List.{append-nil, append_assoc, drop-drop, get_or_append_left, get_or-append_right, places, take-take}
 use Rattle.std.proofs.lemmas.List.Elements.{All-append}
 use Rattle.std.proofs.lemmas.List.FromFn.{get_or-map-range_with_len, length-map-range_with_len, map-range_with_len_more}
+use Rattle.std.proofs.Math.Seq.{take-length}
 use Rattle.std.proofs.lemmas.Nat.{mul-add-lt}
 use borrow.Rule.Slice.PartMut.{put_mid}
-use Rattle.std.proofs.lemmas.Slice.{between_is, between-put_mid}
+use Rattle.std.proofs.lemmas.Slice.{between_is, between-put_mid, take-put_mid_below}
 use Rattle.p3_matrix.specs.Blocks.{AreBlocksOf, IsBlockOf, Run, RunToRefusal}
 use Rattle.p3_matrix.specs.Matrix.{Matrix, image, matrix}
 use Rattle.p3_matrix.specs.RowMajor.{RowMajor}
 use Rattle.p3_matrix.proofs.BlockRuns.{starts_differ}
 use Rattle.p3_matrix.proofs.Matrices.{list_same}
-use Rattle.p3_networks.specs.Slots.{slot_block, slot_blocks}
+use Rattle.p3_networks.specs.Slots.{LentInBlocks, slot_block, slot_blocks}
 
 -- m numbers, and then n more
 pub map_joined : {X : Type 0} (f : ℕ → X) (m n : ℕ) → map f (range_with_len 0 m) ++ map (λ q. f (m + q)) (range_with_len 0 n) ≡ map f (range_with_len 0 (m + n))
@@ -70,6 +71,27 @@ module _ {C T R : Type 0} (step : C → ℕ → RowMajor T → Result ⊤ R → 
     stop = stopped.stop;
   }
 
+-- one block, which is a whole list, by the consumer's answer
+pub lent_once : {T C R : Type 0} (step : C → ℕ → RowMajor T → Result ⊤ R → C → Type 0) (from first b w : ℕ) (rows : List T) (Final : Type 0)
+    (c : C) (result : Result ⊤ R) (e : C) → from ≡ first → length rows ≡ b * w → Final
+    → step c from (record { width = w; values = rows }) result e
+    → LentInBlocks step first b w 1 (λ n. (r : ℕ) → r < n * b → Final) rows c result e
+lent_once {T} {C} {R} step from first b w rows Final c result e is size final taken =
+    go result (subst (λ (x : ℕ × RowMajor T). step c x.0 x.1 result e) here taken)
+  where
+    here : (let m : RowMajor T = record { width = w; values = rows } in (from, m)) ≡ slot_block first b w rows 0
+    here =
+        let end : 0 * b * w + b * w ≡ length rows = omega (arith, size) in
+        let start : 0 * b * w ≡ 0 = omega arith in
+        let number : from ≡ first + 0 * b = omega (arith, is) in
+        ap₂ (λ (x : ℕ) (zs : List T). (x, let m : RowMajor T = record { width = w; values = zs } in m)) number
+        (sym (ap₂ (λ u v. between u v rows) start end ∙ between_is rows 0 (length rows) ∙ take-length rows))
+
+    go : (answer : Result ⊤ R) → step c (slot_block first b w rows 0).0 (slot_block first b w rows 0).1 answer e
+        → LentInBlocks step first b w 1 (λ n. (r : ℕ) → r < n * b → Final) rows c answer e
+    go (Ok x) accepted = (λ _ _. final, (e, accepted, refl))
+    go (Err refusal) refused = (0, omega arith, λ _ _. final, record { middle = c; run = refl; stop = refused })
+
 -- a part of a part
 part_of_part : {X : Type 0} (xs : List X) (start len u v : ℕ) → v ≤ len → between u v (take len (drop start xs)) ≡ between (start + u) (start + v) xs
 part_of_part xs start len u v within =
@@ -111,6 +133,51 @@ written_part now part start whole room len =
     sym (between-put_mid start (start + whole - start) now part (start + whole) (omega (arith, room))
     (omega (arith, len, gap)))
     ∙ ap (λ n. take n (drop start (put_mid start (start + whole - start) now part))) gap
+
+-- A part of n blocks of b rows is put behind p such parts: the blocks before it stay, and its own come behind them.
+module _ {T : Type 0} (first n b w p size : ℕ) (now part : List T) (is : size ≡ n * (b * w))
+    (fits : p * size + size ≤ length now) (long : length part ≡ size) where
+  abbrev put : List T
+  put = put_mid (p * size) (p * size + size - p * size) now part
+
+  start_is : p * size ≡ p * n * (b * w)
+  start_is = ap (λ s. p * s) is ∙ omega arith
+
+  number_is : first + p * (n * b) ≡ first + p * n * b
+  number_is = omega arith
+
+  blocks_put : (m : ℕ) → m ≤ n → slot_blocks first b w now (p * n) ++ slot_blocks (first + p * (n * b)) b w part m
+      ≡ slot_blocks first b w put (p * n + m)
+  blocks_put m few =
+      let within : m * (b * w) ≤ n * (b * w) = mul-le-mul_right (b * w) few in
+      ap (λ xs. xs ++ slot_blocks (first + p * (n * b)) b w part m)
+      (blocks_kept first b w now put (p * n) (p * size) (omega (arith, start_is))
+      (sym (take-put_mid_below (p * size) (p * size + size - p * size) now part (p * size) (omega arith) (omega (arith, fits)))))
+      ∙ blocks_of_part first (first + p * (n * b)) b w (p * n) m (p * size) size put part number_is start_is (omega (arith, within, is))
+      (written_part now part (p * size) size fits long)
+
+  block_put : (m : ℕ) → m < n → slot_block (first + p * (n * b)) b w part m
+      ≡ slot_block first b w put (p * n + m)
+  block_put m below =
+      let within : (m + 1) * (b * w) ≤ n * (b * w) = mul-le-mul_right (b * w) (let l : m + 1 ≤ n = omega (arith, below) in l) in
+      ap (λ f. slot_block f b w part m) number_is
+      ∙ block_of_part first b w (p * n) m (p * size) size put part start_is (omega (arith, within, is)) (written_part now part (p * size) size fits long)
+
+  module _ {C R : Type 0} (step : C → ℕ → RowMajor T → Result ⊤ R → C → Type 0) (c d e : C) where
+    pub run_put : Run step c (slot_blocks first b w now (p * n)) d → Run step d (slot_blocks (first + p * (n * b)) b w part n) e
+        → Run step c (slot_blocks first b w put ((p + 1) * n)) e
+    run_put earlier own =
+        let next : p * n + n ≡ (p + 1) * n = omega arith in
+        subst (λ blocks. Run step c blocks e) (blocks_put n (le_refl n) ∙ ap (slot_blocks first b w put) next) (run_joined step _ _ c d e earlier own)
+
+    pub refused_put : (refusal : R) (m : ℕ) → m < n → Run step c (slot_blocks first b w now (p * n)) d
+        → RunToRefusal step d (slot_blocks (first + p * (n * b)) b w part m) (slot_block (first + p * (n * b)) b w part m) refusal e
+        → RunToRefusal step c (slot_blocks first b w put (p * n + m)) (slot_block first b w put (p * n + m)) refusal e
+    refused_put refusal m below earlier stopped =
+        let next = slot_block (first + p * (n * b)) b w part m in
+        subst (λ block. RunToRefusal step c (slot_blocks first b w put (p * n + m)) block refusal e) (block_put m below)
+        (subst (λ blocks. RunToRefusal step c blocks next refusal e) (blocks_put m (le_of_lt below))
+        (refusal_joined step _ _ next refusal c d e earlier stopped))
 
 module _ {A T : Type 0} (value : T → A) (d : T) (b w : ℕ) (some : 1 ≤ b) (wide : 1 ≤ w) (out : Matrix A) (same_width : out.width ≡ w) where
   -- a block whose rows have the values of those of a matrix

@@ -12,10 +12,10 @@ ghost use Rattle.p3_networks.specs.Chunks.{source_of};
 ghost use Rattle.p3_networks.specs.Counts.{RisesAtMost};
 ghost use Rattle.p3_networks.specs.Halves.{IsHighChunk, IsHighHalf, IsHighNetwork};
 ghost use Rattle.p3_networks.specs.Layers.{AreRows};
-ghost use Rattle.p3_networks.specs.Slots.{HasRowsOnCoset, LentInBlocks, extended_rows, slot_blocks};
+ghost use Rattle.p3_networks.specs.Slots.{HasRowsOnCoset, IsSlot, LentInBlocks, extended_rows, slot_blocks};
 ghost use Rattle.p3_networks.specs.Twiddles.{factor, forward_root, scale_cost};
 
-use crate::chunks::ChunkWork;
+use crate::chunks::{ChunkWork, LendingWork, lend_each_chunk};
 use crate::halves::{HighLayers, first_half};
 use crate::layouts::{ByLayer, LayerTwiddles};
 use crate::radix_2_dit_parallel::coset_tables::{CosetTable, CosetTables, slot_shift};
@@ -63,25 +63,25 @@ pub fn extend_slots<F: TwoAdicField, C: BlockConsumer<F>>(
     let slots = 1usize << added_bits;
     let size = values.len() / slots;
     let (coefficients, others) = values.split_at_mut(size);
+    let work = OtherSlots {
+        cosets,
+        coefficients: &*coefficients,
+        width,
+        log_h,
+        added_bits,
+        shift,
+    };
     let mut found = 0;
-    for place in 0..slots - 1 {
-        found = place_of_slot(cosets, log_h, added_bits, shift, place + 1, found);
-        let table = cosets.get(found);
-        let start = place * size;
-        let slot = &mut others[start..start + size];
-        let first_row = (place + 1) << log_h;
-        if let Err(refusal) = evaluate_reversed(
-            table,
-            Some(&*coefficients),
-            slot,
-            width,
-            log_h,
-            first_row,
-            consumer,
-            products,
-        ) {
-            return Err(refusal);
-        }
+    if let Err(refusal) = lend_each_chunk(
+        &work,
+        others,
+        size,
+        slots - 1,
+        &mut found,
+        consumer,
+        products,
+    ) {
+        return Err(refusal);
     }
     let found = place_of_slot(cosets, log_h, added_bits, shift, 0, found);
     let table = cosets.get(found);
@@ -95,6 +95,71 @@ pub fn extend_slots<F: TwoAdicField, C: BlockConsumer<F>>(
         consumer,
         products,
     )
+}
+
+// The slots behind the first one: each chunk gets the values on the coset of its slot.
+#[derive(Drop)]
+struct OtherSlots<'a, F: TwoAdicField> {
+    cosets: &'a CosetTables<F>,
+    coefficients: &'a [F],
+    width: usize,
+    log_h: usize,
+    added_bits: usize,
+    shift: F,
+}
+
+impl<F: TwoAdicField, C: BlockConsumer<F>> LendingWork<F, C> for OtherSlots<'_, F> {
+    // Where the table of the slot before was found.
+    type Kept = usize;
+
+    ghost accepts = { λ it n size. IsSlot F.TWO_ADICITY it.log_h it.added_bits it.width (length it.coefficients.now)
+        (n + 1) size × HasCosets F.Valued.own F.generator it.cosets.now it.log_h it.added_bits (F.value it.shift) };
+
+    ghost takes = { λ it n r before after. r < 2 ^ it.log_h → (j : ℕ) → j < it.width
+        → F.value (get_or after (r * it.width + j) F.zero)
+        ≡ (extended_rows F.Valued.own F.generator it.log_h it.added_bits it.width (F.value it.shift)
+        it.coefficients.now).entry ((n + 1) * 2 ^ it.log_h + r) j };
+
+    ghost shape = { λ it. record {
+      first = 2 ^ it.log_h;
+      blocks = 2 ^ mid_of it.log_h;
+      rows = 2 ^ (it.log_h - mid_of it.log_h);
+      width = it.width;
+    } };
+
+    ghost cost = { λ it size. it.width * (it.log_h * 2 ^ it.log_h / 2) };
+
+    #[inline(always)]
+    fn on_chunk(
+        &self,
+        number: usize,
+        chunk: &mut [F],
+        found: &mut usize,
+        consumer: &mut C,
+        products: &mut Products,
+    ) -> Result<(), C::Refusal> {
+        let log_h = self.log_h;
+        let slot = number + 1;
+        *found = place_of_slot(
+            self.cosets,
+            log_h,
+            self.added_bits,
+            self.shift,
+            slot,
+            *found,
+        );
+        let table = self.cosets.get(*found);
+        evaluate_reversed(
+            table,
+            Some(self.coefficients),
+            chunk,
+            self.width,
+            log_h,
+            slot << log_h,
+            consumer,
+            products,
+        )
+    }
 }
 
 // The place of the table of a slot's coset. The search begins at `start`.
@@ -145,6 +210,7 @@ fn evaluate_reversed<'a, F: TwoAdicField, C: BlockConsumer<F>>(
     let twiddles = ByLayer {
         twiddles: table.twiddles(),
     };
+    // The source is lent anew, for as long as the values: the borrow checker refuses the longer loan.
     match source {
         Some(rows) => {
             let source = Some(&rows[..]);
@@ -187,7 +253,6 @@ fn last_half<F: TwoAdicField, T: LayerTwiddles<F>, C: BlockConsumer<F>>(
 {
     reverse_chunks(values, width, mid + left);
     let chunks = 1usize << mid;
-    let height = 1usize << left;
     let size = values.len() / chunks;
     let layers = HighLayers {
         table,
@@ -196,36 +261,52 @@ fn last_half<F: TwoAdicField, T: LayerTwiddles<F>, C: BlockConsumer<F>>(
         mid,
         left,
     };
-    for chunk in 0..chunks {
-        let start = chunk * size;
-        let rows = &mut values[start..start + size];
-        let row = first_row + chunk * height;
-        if let Err(refusal) = finish_chunk(&layers, rows, chunk, row, consumer, products) {
-            return Err(refusal);
-        }
-    }
-    Ok(())
+    let work = LentLayers { layers, first_row };
+    lend_each_chunk(&work, values, size, chunks, &mut (), consumer, products)
 }
 
-// One chunk of the second half, which is lent when it is done. Its first row has the number `row`.
-fn finish_chunk<F: TwoAdicField, T: LayerTwiddles<F>, C: BlockConsumer<F>>(
-    layers: &HighLayers<F, T>,
-    values: &mut [F],
-    chunk: usize,
-    row: usize,
-    consumer: &mut C,
-    products: &mut Products,
-) -> Result<(), C::Refusal>
-    requires chunk { let it = layers.now in IsHighChunk it.mid it.left it.width chunk (T.has it.table) (length values.old) }
-    ensures values { let it = layers.now in IsHighNetwork F.Valued.own it.mid it.left it.width chunk (T.at it.table)
-        (λ q j. F.ring.mul (F.value (get_or values.old (q * it.width + j) F.zero)) (factor F.Valued.own it.scale))
-        values.new }
-    ensures lent { C.step consumer.old row (record { width = layers.now.width; values = values.new }) result
-        consumer.new }
-    ensures cost { let it = layers.now in RisesAtMost (it.width * (it.left * 2 ^ it.left / 2)
-        + scale_cost it.scale * (2 ^ it.left * it.width)) products.old products.new }
-{
-    layers.on_chunk(chunk, values, products);
-    let block = RowMajorMatrixView::new(&values[..], layers.width);
-    consumer.consume(row, block)
+// The layers of the second half, on chunks that are lent when they are done. The first row of all has a number.
+#[derive(Drop)]
+struct LentLayers<F, T> {
+    layers: HighLayers<F, T>,
+    first_row: usize,
+}
+
+impl<F: TwoAdicField, T: LayerTwiddles<F>, C: BlockConsumer<F>> LendingWork<F, C>
+    for LentLayers<F, T> {
+    type Kept = ();
+
+    ghost accepts = { λ it n size. IsHighChunk it.layers.mid it.layers.left it.layers.width n (T.has it.layers.table) size
+        × (it.first_row + 2 ^ (it.layers.mid + it.layers.left) < 2 ^ 64) };
+
+    ghost takes = { λ it n r before. IsHighNetwork F.Valued.own it.layers.mid it.layers.left it.layers.width n
+        (T.at it.layers.table) (λ q j. F.ring.mul (F.value (get_or before (q * it.layers.width + j) F.zero))
+        (factor F.Valued.own it.layers.scale)) };
+
+    ghost shape = { λ it. record {
+      first = it.first_row;
+      blocks = 1;
+      rows = 2 ^ it.layers.left;
+      width = it.layers.width;
+    } };
+
+    ghost cost = { λ it size. it.layers.width * (it.layers.left * 2 ^ it.layers.left / 2)
+        + scale_cost it.layers.scale * (2 ^ it.layers.left * it.layers.width) };
+
+    #[inline(always)]
+    fn on_chunk(
+        &self,
+        number: usize,
+        chunk: &mut [F],
+        kept: &mut (),
+        consumer: &mut C,
+        products: &mut Products,
+    ) -> Result<(), C::Refusal> {
+        let layers = &self.layers;
+        let height = 1usize << layers.left;
+        let row = self.first_row + number * height;
+        layers.on_chunk(number, chunk, products);
+        let block = RowMajorMatrixView::new(&chunk[..], layers.width);
+        consumer.consume(row, block)
+    }
 }

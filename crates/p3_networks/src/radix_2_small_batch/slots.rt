@@ -7,7 +7,7 @@ ghost use Rattle.p3_matrix.specs.BitOrder.{rev};
 ghost use Rattle.p3_matrix.specs.Cosets.{point};
 ghost use Rattle.p3_networks.specs.Counts.{RisesAtMost};
 ghost use Rattle.p3_networks.specs.Layers.{AreRows, AreValuesOfRows};
-ghost use Rattle.p3_networks.specs.Slots.{CanExtend};
+ghost use Rattle.p3_networks.specs.Slots.{IsSlot};
 ghost use Rattle.p3_matrix.specs.Polynomials.{poly};
 ghost use Rattle.p3_networks.specs.Twiddles.{AreTwiddlesFromStart, block_powers, forward_root};
 
@@ -80,8 +80,10 @@ struct OtherSlots<'a, F> {
 }
 
 impl<F: TwoAdicField> ChunkWork<F> for OtherSlots<'_, F> {
-    ghost accepts = { λ it n size. CanExtend F.Valued.own F.generator F.TWO_ADICITY it.log_h it.added_bits it.width
-        it.tiling.log_rows it.tiling.piece it.twiddles.now it.coefficients.now (n + 1) size };
+    ghost accepts = { λ it n size. IsSlot F.TWO_ADICITY it.log_h it.added_bits it.width (length it.coefficients.now)
+        (n + 1) size × (it.tiling.log_rows ≤ it.log_h) × (1 ≤ it.tiling.piece)
+        × AreTwiddlesFromStart F.Valued.own it.log_h
+        (block_powers F.Valued.own (forward_root F.Valued.own F.generator)) it.twiddles.now };
 
     ghost takes = { λ it n before after. (t j : ℕ) → t < 2 ^ it.log_h → j < it.width
         → F.value (get_or after (t * it.width + j) F.zero)

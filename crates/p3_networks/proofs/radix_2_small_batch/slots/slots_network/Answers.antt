@@ -3,8 +3,10 @@ use Rattle.p3_matrix.specs.BitOrder.{rev}
 use Rattle.p3_matrix.specs.Cosets.{point}
 use Rattle.p3_matrix.specs.Polynomials.{poly}
 use Rattle.p3_networks.specs.Twiddles.{forward_root}
+use Rattle.p3_networks.proofs.Layers.Blocks.{block_within}
 use Rattle.p3_networks.proofs.Layers.Sizes.{first_shift, second_shift}
-use Rattle.p3_networks.proofs.Networks.Slots.{first_coset, of_front, others_whole, rows_of_chunks, slot_of_shifted, slot_size, slots_counted}
+use Rattle.p3_networks.proofs.Networks.Slots.{first_coset, is_slot, of_front, other_rows, others_whole, rows_of_slots, slot_of_shifted}
+use Rattle.p3_networks.proofs.Networks.Slots.{slot_size, slots_counted}
 use Rattle.p3_networks.proofs.Tables.RootPowers.{fewer_roots}
 use Rattle.p3_networks.proofs.radix_2_small_batch.slots.slots_network.Goals as goal
 
@@ -14,20 +16,13 @@ on_each_chunk-requires-clause-whole g c =
     c.split_at_mut-coefficients.ensures.back_len
 
 pub on_each_chunk-requires-clause-accepts : goal.on_each_chunk-requires-clause-accepts
-on_each_chunk-requires-clause-accepts g c n below = record {
-  rows = record {
-    width = c.requires.width;
-    fits_u64 = omega (arith, c.requires.fits_u64);
-    size = slot_size (length c.args.values.now) c.args.log_h c.args.added_bits c.args.width c.requires.fits_u64 c.requires.size;
-  };
-  slot = omega (arith, below, second_shift c.args.log_h c.args.added_bits c.requires.fits_u64);
-  source = c.split_at_mut-coefficients.ensures.front_len;
-  below = c.requires.below;
-  piece = c.requires.piece;
-  within = c.requires.within;
-  fits_u64 = c.requires.fits_u64;
-  twiddles = c.requires.twiddles;
-}
+on_each_chunk-requires-clause-accepts g c n below = (
+  is_slot _ c.args.log_h c.args.added_bits c.args.width _ _ n c.requires.width c.requires.within c.requires.fits_u64 c.requires.size
+      c.split_at_mut-coefficients.ensures.front_len below,
+  c.requires.below,
+  c.requires.piece,
+  c.requires.twiddles,
+)
 
 pub shift_values-requires : goal.shift_values-requires
 shift_values-requires g c =
@@ -57,12 +52,14 @@ returns-clause-values g c r j below inside =
     let is = slot_size (length c.args.values.now) k a w c.requires.fits_u64 c.requires.size in
     let size : length coefficients ≡ 2 ^ k * w = c.split_at_mut-coefficients.ensures.front_len ∙ is in
     let roots = fewer_roots field.ring (k + a) _ c.requires.within g.met.F.TwoAdicField.roots_law in
-    rows_of_chunks field.value field.zero k a w _ front c.on_each_chunk.new.values
-    (λ r j. poly field.ring (2 ^ k) (λ u. field.value (get_or coefficients (u * w + j) field.zero)) (point field.ring gen (k + a) s (rev (k + a) r)))
-    is (c.evaluate_to_reversed.auto.values ∙ c.shift_values.auto.values ∙ size)
+    let entry = λ (r j : ℕ). poly field.ring (2 ^ k) (λ u. field.value (get_or coefficients (u * w + j) field.zero))
+    (point field.ring gen (k + a) s (rev (k + a) r)) in
+    rows_of_slots field.value field.zero k a w front c.on_each_chunk.new.values entry (c.evaluate_to_reversed.auto.values ∙ c.shift_values.auto.values ∙ size)
     (slot_of_shifted field g.F.TwoAdicField.generator k a w 0 s s _ coefficients c.shift_values.new.values front roots
     (first_coset field.ring gen (k + a) a s) (first_shift k a c.requires.fits_u64) c.shift_values.ensures.values c.evaluate_to_reversed.ensures.values)
-    (λ p t j later. c.on_each_chunk.ensures.chunks p (omega (arith, later, second_shift k a c.requires.fits_u64)) t j)
+    (other_rows field.value field.zero k w _ _ c.on_each_chunk.new.values entry is
+    (λ p t j near. let count = second_shift k a c.requires.fits_u64 in
+    c.on_each_chunk.ensures.chunks p (omega (arith, block_within p (2 ^ k) t (2 ^ a - 1) near, count)) t j))
     r j below inside
     ∙ of_front field k w j (λ u. u) _ coefficients c.split_at_mut-coefficients.result.1.now c.args.values.now
     c.split_at_mut-coefficients.ensures.value size (λ u l. l) inside
