@@ -8,8 +8,9 @@ ghost use Rattle.p3_dft.specs.Engines.{AtLog};
 ghost use Rattle.p3_dft.specs.Shapes.{FitsDft};
 ghost use Rattle.p3_dft.specs.Stored.{HasTwoPowerRows};
 
+use crate::util::log_height;
 use p3_field::{Products, TwoAdicField};
-use p3_matrix::{DftError, IntoRowMajorMatrix, RowMajorMatrix, log2_strict_usize};
+use p3_matrix::{DftError, IntoRowMajorMatrix, RowMajorMatrix};
 use p3_networks::radix_2_dit_parallel::tables::Tables;
 use p3_networks::root_tables::RootTables;
 use p3_networks::twiddles::Twiddles;
@@ -103,11 +104,10 @@ pub(crate) fn on_prepared<
     ensures room { IfErr result (IsWithin (type_size F.row) (height (N.stored mat) * (N.stored mat).width)) }
 {
     let mut mat = mat.into_row_major_matrix();
-    let height = mat.height();
-    if height == 1 {
+    if mat.height() == 1 {
         return Ok(mat);
     }
-    let log_h = log2_strict_usize(height);
+    let log_h = log_height(&mat);
     tables.make_for(*mat.allocator(), log_h)?;
     work.on_matrix(tables, &mut mat, log_h, products);
     Ok(mat)

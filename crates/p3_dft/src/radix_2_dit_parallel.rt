@@ -16,10 +16,10 @@ use crate::radix_2_dit_parallel::transform::{
     Evaluation, Interpolation, evaluate_on_coset_to_reversed,
 };
 use crate::traits::{Layout, TwoAdicSubgroupDft};
+use crate::util::{log_height, log_height_lde};
 use p3_field::{Field, Products, TwoAdicField};
 use p3_matrix::{
     BitReversedMatrixView, BlockConsumer, DftError, IntoRowMajorMatrix, RowMajorMatrix,
-    log2_strict_usize,
 };
 use p3_networks::radix_2_dit_parallel::coset_tables::CosetTables;
 use p3_networks::radix_2_dit_parallel::tables::Tables;
@@ -236,11 +236,10 @@ impl<F: TwoAdicField> TwoAdicSubgroupDft<F> for Radix2DitParallel<F> {
             return self.dft_batch(mat);
         }
         let mut mat = mat.into_row_major_matrix();
-        let height = mat.height();
-        if height == 1 {
+        if mat.height() == 1 {
             return Ok(mat.bit_reverse_rows());
         }
-        let log_h = log2_strict_usize(height);
+        let log_h = log_height(&mat);
         let place = self.cosets.make(*mat.allocator(), log_h, shift)?;
         let table = self.cosets.get(place);
         evaluate_on_coset_to_reversed(table, &mut mat, log_h, &mut self.products);
@@ -365,7 +364,7 @@ impl<F: TwoAdicField> TwoAdicSubgroupDft<F> for Radix2DitParallel<F> {
             (coset_table_bytes F.row) (length self.new.cosets + 1)) }
     {
         let mat = mat.into_row_major_matrix();
-        let log_h = log2_strict_usize(mat.height());
+        let log_h = log_height_lde(&mat, added_bits);
         let block_height = self.block_height(log_h, added_bits);
         let room = coefficients_with_room(
             &mut self.tables,

@@ -15,7 +15,7 @@ ghost use Rattle.p3_dft.specs.Stored.{HasEntriesOf, HasTwoPowerRows};
 
 use crate::prepared::{MatrixWork, on_prepared};
 use crate::traits::{Layout, TwoAdicSubgroupDft};
-use crate::util::{extend_by_zeros, pad_rows, shift_rows};
+use crate::util::{extend_by_zeros, log_height_lde, pad_rows, shift_rows};
 use p3_field::{Products, TwoAdicField};
 use p3_matrix::{
     BitReversedMatrixView, DftError, Evaluations, IntoRowMajorMatrix, RowMajorMatrix,
@@ -257,7 +257,7 @@ impl<F: TwoAdicField> TwoAdicSubgroupDft<F> for Radix2DFTSmallBatch<F> {
             self.add_products(products);
             return self.dft_batch(mat);
         }
-        let log_h = log2_strict_usize(mat.height());
+        let log_h = log_height_lde(&mat, added_bits);
         self.tables.make(*mat.allocator(), log_h + added_bits)?;
         let tile = self.tile;
         let forward = self.tables.forward();
@@ -291,7 +291,7 @@ impl<F: TwoAdicField> TwoAdicSubgroupDft<F> for Radix2DFTSmallBatch<F> {
             (type_size F.row) self.old self.new result (N.stored mat) added_bits }
     {
         let mat = mat.into_row_major_matrix();
-        let log_h = log2_strict_usize(mat.height());
+        let log_h = log_height_lde(&mat, added_bits);
         self.tables.make(*mat.allocator(), log_h + added_bits)?;
         let mut grown = pad_rows(mat, added_bits)?;
         let twiddles = self.tables.forward();
@@ -331,7 +331,7 @@ impl<F: TwoAdicField> TwoAdicSubgroupDft<F> for Radix2DFTSmallBatch<F> {
             * (k * 2 ^ k / 2 * (1 + 2 ^ added_bits) + 2 ^ (k + added_bits))) }
     {
         let mut mat = mat.into_row_major_matrix();
-        let log_h = log2_strict_usize(mat.height());
+        let log_h = log_height_lde(&mat, added_bits);
         if log_h + added_bits == 0 {
             return Ok(mat);
         }
@@ -396,7 +396,7 @@ impl<F: TwoAdicField> TwoAdicSubgroupDft<F> for Radix2DFTSmallBatch<F> {
             self.old self.new result (N.stored mat) added_bits }
     {
         let mat = mat.into_row_major_matrix();
-        let log_h = log2_strict_usize(mat.height());
+        let log_h = log_height_lde(&mat, added_bits);
         self.prepare(*mat.allocator(), log_h + added_bits)?;
         let coefficients = self.idft_batch(mat)?;
         // Tells the prover that the rows are whole.
@@ -519,12 +519,11 @@ fn extend_to_natural<F: TwoAdicField>(
     tile: usize,
     products: &mut Products,
 ) -> Result<RowMajorMatrix<F>, DftError>
-    requires whole { IsRowMajor mat }
+    requires rows { HasTwoPowerRows mat log_h }
     requires nonzero { 1 ≤ log_h + added_bits }
     requires fits_u64 { log_h + added_bits < 64 }
     requires within { log_h + added_bits ≤ F.TWO_ADICITY }
-    requires height { height mat ≡ 2 ^ log_h }
-    requires room { mat.width * 2 ^ (log_h + added_bits) < 2 ^ 64 }
+    requires size { height mat * mat.width * 2 ^ added_bits < 2 ^ 64 }
     requires tile { tile ≤ MAX_TILE }
     requires twiddles { AreTwiddlesFromStart F.Valued.own (log_h + added_bits)
         (block_powers F.Valued.own (forward_root F.Valued.own F.generator)) twiddles.now }

@@ -19,11 +19,13 @@ ghost use Rattle.p3_matrix.specs.Cosets.{values_of};
 
 use crate::algebra::{flatten, gather};
 use crate::blocks::{BlocksStopped, Unpublished};
-use crate::util::{coefficients_from_values, exchange_layouts, pad_rows, shift_rows};
+use crate::util::{
+    coefficients_from_values, exchange_layouts, log_height_lde, pad_rows, shift_rows,
+};
 use p3_field::{BasedVectorSpace, Field, Products, TwoAdicField};
 use p3_matrix::{
     BitReversedMatrixView, BlockConsumer, DftError, Evaluations, IntoRowMajorMatrix,
-    RowMajorMatrix, log2_strict_usize, publish,
+    RowMajorMatrix, publish,
 };
 
 /// In which order the rows of a matrix of `2^k` coefficients lie.
@@ -347,7 +349,8 @@ pub trait TwoAdicSubgroupDft<F: TwoAdicField>: Clone + Default {
         ensures engine { AfterLde facts (type_size F.row) self.old self.new (outcome result) (N.stored mat) added_bits }
     {
         let mat = mat.into_row_major_matrix();
-        let block_height = self.block_height(log2_strict_usize(mat.height()), added_bits);
+        let log_h = log_height_lde(&mat, added_bits);
+        let block_height = self.block_height(log_h, added_bits);
         match self.coset_lde_batch_bit_reversed(mat, added_bits, shift, transform) {
             Err(_) => Err(BlocksStopped::OutOfMemory(Unpublished { make_consumer })),
             Ok(out) => {

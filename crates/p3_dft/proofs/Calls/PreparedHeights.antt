@@ -1,11 +1,14 @@
 -- The steps of an engine that shows the largest height whose twiddles are there.
 use Rattle.std.specs.Prelude.{⊤, max}
-use Rattle.std.proofs.Common.{◌≡◌, ℕ, zero, suc, ◌+◌, ◌*◌, ◌≤◌, ◌^◌, Result, Ok, Err, IfErr, IsOk, OnErr, OnOk, ◌⊎◌, refl, ap, subst, arith, le_refl, rules}
+use Rattle.std.proofs.Common.{◌≡◌, ℕ, ◌+◌, ◌*◌, ◌≤◌, ◌^◌, Result, Ok, Err, IfErr, IsErr, IsErrAnd, IsOk, OnErr, OnOk, ◌⊎◌, refl, ap}
+use Rattle.std.proofs.Common.{subst, arith, le_refl, rules}
 use Rattle.p3_matrix.specs.declared.error.DftError.{DftError}
 use Rattle.p3_matrix.specs.Room.{IsWithin}
 use Rattle.p3_matrix.specs.RowMajor.{RowMajor, height}
-use Rattle.p3_matrix.proofs.Rooms.{if_first}
-use Rattle.p3_dft.specs.Engines.{AfterDft, AtLog, EngineFacts, HasProductsMore, IsLater, IsPrepared, EngineState}
+use Rattle.p3_matrix.proofs.Rooms.{first_of, if_first}
+use Rattle.p3_dft.specs.Engines.{AfterDft, AtLog, EngineFacts, HasProductsMore, IsAfter, IsLater, IsPrepared, EngineState}
+use Rattle.p3_dft.proofs.Calls.EngineSteps.{after_error}
+use Rattle.p3_dft.proofs.Calls.Shapes.{extended_table_fits}
 
 -- an engine with twiddles of all heights up to one, and so many products
 abbrev pub up_to : ℕ → ℕ → EngineState
@@ -38,6 +41,15 @@ module _ {F : Type 0} (t : ℕ → ℕ → ℕ) (x : ℕ → ℕ → ℕ → ℕ
         keeps_prepared = still;
         grows = grows;
       })
+
+  -- memory for its tables was refused to a call of 2 ^ k rows, before a product was made
+  pub tables_refused : {bytes : ℕ} {A : Type 0} {log more_log products h w n : ℕ} {known : ℕ → Type 0} {p : ℕ → ℕ}
+      (k a : ℕ) (e : DftError) (r : Result A DftError)
+      → IsErr r × IsErrAnd r (λ y. y ≡ e) → log ≤ more_log → 1 ≤ w → h ≡ 2 ^ k → IsWithin bytes (2 ^ (k + a)) e
+      → IsAfter (tabled_facts {F = F} t x b) bytes (up_to log products) (up_to more_log products) r h known p (h * w * 2 ^ a) n
+  tables_refused {products = products} k a e r err keeps wide high room =
+      after_error (tabled_facts {F = F} t x b) _ _ r err.0 (later_with_heights _ _ _ _ _ refl keeps (le_refl products)) refl
+      (omega arith) (first_of _ _ _ _ (le_refl _) (extended_table_fits k a wide high) _ _ r e err room)
 
   -- products that were counted
   pub counted_with_heights : (before : EngineState) (log products more_products n : ℕ) → up_to log products ≡ before → more_products ≡ products + n
@@ -76,25 +88,12 @@ pub not_ok : {A E : Type 0} (r : Result A E) (e : E) → r ≡ Err e → IsOk r 
 not_ok (Ok x) e is ok = cc
 not_ok (Err x) e is ok = search rules
 
--- a height above one has a layer
-pub some_log : (h k : ℕ) → h ≡ 2 ^ k → (h ≡ 1 → ⊥) → 1 ≤ k
-some_log h zero high more = absurd (more high)
-some_log h (suc k) high more = omega arith
-
 -- where an answer prepares a height and an error changes nothing, no larger height is prepared
 pub none_above : {X T E : Type 0} (prepared : X → ℕ) (r : Result T E) (a b : X) (k : ℕ)
     → OnOk r (prepared b ≡ max (prepared a) k) → OnErr r (b ≡ a) → prepared b ≤ max (prepared a) k
 none_above prepared (Ok x) a b k made same = omega (arith, made)
 none_above prepared (Err e) a b k made same = omega (arith, ap prepared same)
 
--- where a height was made unless it was there, neither is one
-pub made_none_above : (k log a before inside after : ℕ) → log ≡ k → inside ≡ before → (after ≡ inside) ⊎ (after ≡ log + a) → after ≤ max before (k + a)
-made_none_above k log a before inside after same view made = omega arith
-
 -- a height that is one of two is no larger than both
 pub no_larger : (n m k : ℕ) → (n ≡ m) ⊎ (n ≡ k) → n ≤ max m k
 no_larger n m k is = omega (arith, is)
-
--- what was made for the larger height is there for both
-pub made_both : (log k a n : ℕ) → log ≡ k → log + a ≤ n → (k ≤ n) × (k + a ≤ n)
-made_both log k a n same made = (omega (arith, same, made), omega (arith, same, made))

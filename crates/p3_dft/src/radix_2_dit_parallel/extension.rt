@@ -19,9 +19,9 @@ ghost use Rattle.p3_dft.specs.Tables.{LeavesTables};
 
 use crate::radix_2_dit_parallel::transform::interpolate_to_reversed;
 use crate::traits::Layout;
-use crate::util::pad_rows;
+use crate::util::{log_height_lde, pad_rows};
 use p3_field::{Products, TwoAdicField};
-use p3_matrix::{BlockConsumer, DftError, RowMajorMatrix, RowMajorMatrixView, log2_strict_usize};
+use p3_matrix::{BlockConsumer, DftError, RowMajorMatrix, RowMajorMatrixView};
 use p3_networks::radix_2_dit_parallel::coset_tables::CosetTables;
 use p3_networks::radix_2_dit_parallel::published_slots::extend_slots;
 use p3_networks::radix_2_dit_parallel::tables::Tables;
@@ -64,7 +64,7 @@ pub(crate) fn coefficients_with_room<
 {
     let mut mat = mat;
     let alloc = *mat.allocator();
-    let log_h = log2_strict_usize(mat.height());
+    let log_h = log_height_lde(&mat, added_bits);
     tables.make(alloc, log_h)?;
     interpolate_to_reversed(tables, &mut mat, log_h, products);
     let changed = transform(mat, Layout::BitReversed);

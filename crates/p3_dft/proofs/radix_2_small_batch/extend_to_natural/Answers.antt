@@ -1,5 +1,5 @@
 use Rattle.std.proofs.Common.{ℕ, List, [], ◌≡◌, ◌*◌, ◌/◌, ◌%◌, ◌+◌, ◌-◌, ◌^◌, ◌<◌, ◌≤◌, ◌++◌, length, get_or, replicate}
-use Rattle.std.proofs.Common.{drop, refl, sym, ◌∙◌, ap, ap₂, arith, mod-eq_of_lt, mul-div_cancel, pow-add}
+use Rattle.std.proofs.Common.{drop, refl, sym, ◌∙◌, ap, ap₂, arith, mod-eq_of_lt, mul-div_cancel}
 use Rattle.std.proofs.lemmas.List.{length-replicate}
 use Rattle.p3_field.specs.Ring.{power}
 use Rattle.p3_matrix.specs.BitOrder.{rev}
@@ -9,22 +9,19 @@ use Rattle.p3_dft.proofs.BitReversed.OneReversal.{values_of_weighed}
 use Rattle.p3_networks.proofs.Layers.Counts.{extension_counted}
 use Rattle.p3_matrix.proofs.Rows.Overwritten.{written}
 use Rattle.p3_matrix.proofs.Rooms.{room_of}
-use Rattle.p3_dft.proofs.Calls.Shapes.{fewer_entries, powers_fit}
+use Rattle.p3_dft.proofs.Calls.Shapes.{extended_entries, fewer_entries, powers_fit}
 use Rattle.p3_dft.proofs.radix_2_small_batch.extend_to_natural.Goals as goal
 
 -- as many zeros as the extension has entries
 zeros_length : {T : Type 0} (z : T) (old xs given values : List T) (len h w v k a : ℕ) → old ≡ []
     → xs ≡ old ++ replicate (len * 2 ^ a % 2 ^ 64) z → len ≡ length given → given ≡ values → h * w ≡ length values
     → h ≡ 2 ^ k → v ≡ w
-    → w * 2 ^ (k + a) < 2 ^ 64 → length xs ≡ 2 ^ (k + a) * v
+    → h * w * 2 ^ a < 2 ^ 64 → length xs ≡ 2 ^ (k + a) * v
 zeros_length z old xs given values len h w v k a none is len_is given_is full high width room =
-    let entries : len * 2 ^ a ≡ w * 2 ^ (k + a) =
-    ap (λ n. n * 2 ^ a) (len_is ∙ ap length given_is ∙ sym full ∙ ap (λ n. n * w) high)
-    ∙ (let swap : 2 ^ k * w * 2 ^ a ≡ w * (2 ^ k * 2 ^ a) = omega arith in swap)
-    ∙ ap (λ n. w * n) (sym (pow-add 2 k a)) in
+    let entries : len * 2 ^ a ≡ h * w * 2 ^ a = ap (λ n. n * 2 ^ a) (len_is ∙ ap length given_is ∙ sym full) in
     ap length (is ∙ ap (λ ys. ys ++ replicate (len * 2 ^ a % 2 ^ 64) z) none)
     ∙ length-replicate (len * 2 ^ a % 2 ^ 64) z ∙ mod-eq_of_lt (omega (arith, entries, room)) ∙ entries
-    ∙ (let swap : w * 2 ^ (k + a) ≡ 2 ^ (k + a) * w = omega arith in swap) ∙ ap (λ n. 2 ^ (k + a) * n) (sym width)
+    ∙ sym (extended_entries k a high refl width)
 
 full_rows : {T : Type 0} (xs ys : List T) (w h : ℕ) → xs ≡ ys → 1 ≤ w → length ys ≡ h * w → length xs / w * w ≡ length xs
 full_rows xs ys w h same wide full =
@@ -36,8 +33,8 @@ extending_network-requires-clause-size g c =
     ap length c.as_mut_slice.ensures.value
     ∙ zeros_length g.F.Valued.zero c.new-values.result.items c.extend_by_zeros.new.values.items c.values.result.now
     c.args.mat.values _ _ c.args.mat.width c.width-width.result c.args.log_h c.args.added_bits
-    c.new-values.ensures.items c.in_ok-extend_by_zeros.ensures.ok refl c.values.ensures.values c.requires.whole.full
-    c.requires.height c.width-width.ensures.width c.requires.room
+    c.new-values.ensures.items c.in_ok-extend_by_zeros.ensures.ok refl c.values.ensures.values c.requires.rows.whole.full
+    c.requires.rows.height c.width-width.ensures.width c.requires.size
 
 pub new-requires-clause-full : goal.new-requires-clause-full
 new-requires-clause-full g c =
@@ -47,13 +44,13 @@ new-requires-clause-full g c =
     let size : length items ≡ rows * w =
     zeros_length g.F.Valued.zero c.new-values.result.items c.extend_by_zeros.new.values.items c.values.result.now
     c.args.mat.values _ _ c.args.mat.width c.width-width.result c.args.log_h c.args.added_bits
-    c.new-values.ensures.items c.in_ok-extend_by_zeros.ensures.ok refl c.values.ensures.values c.requires.whole.full
-    c.requires.height c.width-width.ensures.width c.requires.room in
+    c.new-values.ensures.items c.in_ok-extend_by_zeros.ensures.ok refl c.values.ensures.values c.requires.rows.whole.full
+    c.requires.rows.height c.width-width.ensures.width c.requires.size in
     let len : length c.extending_network.new.values ≡ length items = c.extending_network.auto.values ∙ ap length c.as_mut_slice.ensures.value in
     full_rows _ c.extending_network.new.values w rows
     (written c.extend_by_zeros.new.values.len c.extending_network.new.values
     (drop (length c.extending_network.new.values) items) (omega (arith, len, c.extend_by_zeros.new.values.ok.0)))
-    (omega (arith, c.requires.whole.width, c.width-width.ensures.width)) (len ∙ size)
+    (omega (arith, c.requires.rows.whole.width, c.width-width.ensures.width)) (len ∙ size)
 
 pub extending_network-requires-clause-twiddles : goal.extending_network-requires-clause-twiddles
 extending_network-requires-clause-twiddles g c = c.requires.twiddles
@@ -63,8 +60,8 @@ added-sub k a = omega arith
 
 pub extending_network-requires-clause-rows : goal.extending_network-requires-clause-rows
 extending_network-requires-clause-rows g c =
-    ap length c.values-2.ensures.values ∙ sym c.requires.whole.full
-    ∙ ap₂ (λ (h w : ℕ). h * w) (c.requires.height ∙ ap (λ n. 2 ^ n) (sym (added-sub c.args.log_h c.args.added_bits)))
+    ap length c.values-2.ensures.values ∙ sym c.requires.rows.whole.full
+    ∙ ap₂ (λ (h w : ℕ). h * w) (c.requires.rows.height ∙ ap (λ n. 2 ^ n) (sym (added-sub c.args.log_h c.args.added_bits)))
     (sym c.width-width.ensures.width)
 
 pub extending_network-requires-clause-weights : goal.extending_network-requires-clause-weights
@@ -74,7 +71,7 @@ extending_network-requires-clause-weights g c =
 
 pub returns-in_err-weights-clause-room : goal.returns-in_err-weights-clause-room
 returns-in_err-weights-clause-room g c =
-    let table = powers_fit c.args.log_h c.requires.whole.width c.requires.height in
+    let table = powers_fit c.args.log_h c.requires.rows.whole.width c.requires.rows.height in
     room_of _ c.from_residual.result _ _ _ c.from_residual.ensures
     (omega (arith, table, fewer_entries (height c.args.mat * c.args.mat.width) c.args.added_bits))
     c.in_err-weights.ensures.room
@@ -90,15 +87,15 @@ returns g c =
     let size : length items ≡ 2 ^ (k + a) * w =
     zeros_length field.zero c.new-values.result.items items c.values.result.now c.args.mat.values _ _
     c.args.mat.width w k a
-    c.new-values.ensures.items c.in_ok-extend_by_zeros.ensures.ok refl c.values.ensures.values c.requires.whole.full
-    c.requires.height c.width-width.ensures.width c.requires.room in
+    c.new-values.ensures.items c.in_ok-extend_by_zeros.ensures.ok refl c.values.ensures.values c.requires.rows.whole.full
+    c.requires.rows.height c.width-width.ensures.width c.requires.size in
     let len : length after ≡ length items = c.extending_network.auto.values ∙ ap length c.as_mut_slice.ensures.value in
     record {
       values =
-          let wide : 1 ≤ w = omega (arith, c.requires.whole.width, c.width-width.ensures.width) in
+          let wide : 1 ≤ w = omega (arith, c.requires.rows.whole.width, c.width-width.ensures.width) in
           let values_is = written c.extend_by_zeros.new.values.len after (drop (length after) items) (omega (arith, len, c.extend_by_zeros.new.values.ok.0)) in
           values_of_weighed field g.F.TwoAdicField.generator c.args.mat c.new.result after c.as_slice.result.now w k
-          (k + a) (field.value c.args.scale) (field.value c.args.shift) c.requires.height wide
+          (k + a) (field.value c.args.scale) (field.value c.args.shift) c.requires.rows.height wide
           c.width-width.ensures.width
           (ap (λ (n : RowMajor g.row.F.Denot). n.width) c.new.ensures) (ap (λ (n : RowMajor g.row.F.Denot). n.values) c.new.ensures ∙ values_is) (len ∙ size)
           (λ b below. ap (λ xs. field.value (get_or xs b field.zero)) c.as_slice.ensures.value ∙ c.in_ok-weights.ensures.powers.entries b below)

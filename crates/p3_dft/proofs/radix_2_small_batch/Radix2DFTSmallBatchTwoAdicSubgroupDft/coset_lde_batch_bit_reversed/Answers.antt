@@ -1,4 +1,4 @@
-use Rattle.std.proofs.Common.{◌≡◌, ℕ, ◌+◌, ◌^◌, ◌<◌, ◌≤◌, refl, sym, ap, ◌∙◌, arith, le_of_eq, le_refl, max}
+use Rattle.std.proofs.Common.{◌≡◌, ℕ, ◌+◌, ◌^◌, ◌≤◌, inl, refl, sym, ap, ◌∙◌, arith, le_of_eq, le_refl, max}
 use Rattle.std.proofs.Math.Pow.{pow-lt}
 use Rattle.std.proofs.lemmas.Result.{IfOk-from_err, IfOk-weaker}
 use Rattle.p3_matrix.specs.BitOrder.{reversed_rows}
@@ -8,8 +8,8 @@ use Rattle.p3_matrix.proofs.TwoPowers.{entries_rise, log_same}
 use Rattle.p3_dft.specs.Engines.{EngineState, IsLater}
 use Rattle.p3_dft.proofs.Calls.EngineSteps.{after_error, after_later, lde_of_same, parts_after}
 use Rattle.p3_dft.proofs.Calls.ExtendedTransforms.{answered_shape, extension_of_natural}
-use Rattle.p3_dft.proofs.Calls.PreparedHeights.{none_above, tabled_facts}
-use Rattle.p3_dft.proofs.Calls.Shapes.{both_logs_fit, extended_table_fits, fits_lde_as, input_fits}
+use Rattle.p3_dft.proofs.Calls.PreparedHeights.{no_larger, none_above, tabled_facts}
+use Rattle.p3_dft.proofs.Calls.Shapes.{extended_table_fits, fits_lde_as, input_fits}
 use Rattle.p3_dft.proofs.radix_2_small_batch.Radix2DFTSmallBatchTwoAdicSubgroupDft.coset_lde_batch_bit_reversed.Goals as goal
 
 -- heights were prepared, without a product
@@ -28,28 +28,8 @@ none_above_both : (k log a before prepared inside after : ℕ) → log ≡ k →
     → inside ≤ max prepared log → after ≤ max inside (log + a) → after ≤ max before (k + a)
 none_above_both k log a before prepared inside after same made more most = omega arith
 
-pub overflow_add-log_h : goal.overflow_add-log_h
-overflow_add-log_h g c =
-    omega (
-      arith,
-      (both_logs_fit _ _ c.requires.fits c.log2_strict_usize-log_h.ensures.power
-          (c.height.ensures.height ∙ ap height c.into_row_major_matrix-mat.ensures)).3,
-    )
-
-pub prepare-requires-clause-within : goal.prepare-requires-clause-within
-prepare-requires-clause-within g c =
-    (both_logs_fit _ _ c.requires.fits c.log2_strict_usize-log_h.ensures.power
-    (c.height.ensures.height ∙ ap height c.into_row_major_matrix-mat.ensures)).2
-
 pub prepare-requires-clause-size : goal.prepare-requires-clause-size
-prepare-requires-clause-size g c =
-    let digits : c.log2_strict_usize-log_h.result + c.args.added_bits < 64 =
-    omega (
-      arith,
-      (both_logs_fit _ _ c.requires.fits c.log2_strict_usize-log_h.ensures.power
-          (c.height.ensures.height ∙ ap height c.into_row_major_matrix-mat.ensures)).3,
-    ) in
-    pow-lt digits
+prepare-requires-clause-size g c = pow-lt c.log_height_lde-log_h.ensures.fits_u64
 
 pub coset_lde_batch_of_coefficients_bit_reversed-requires : goal.coset_lde_batch_of_coefficients_bit_reversed-requires
 coset_lde_batch_of_coefficients_bit_reversed-requires g c =
@@ -102,11 +82,11 @@ returns-clause-only g c k e =
     c.in_ok-coefficients.coefficients _ _ fits.log fits.height
     (rw (← stored) c.in_ok-coefficients.ensures.coefficients) (refl, refl)
     c.width-width.ensures.whole c.requires.shape c.transform-changed.ensures in
-    let log = c.log2_strict_usize-log_h.result in
-    let same = log_same log k (sym c.log2_strict_usize-log_h.ensures.power ∙ c.height.ensures.height ∙ ap height stored ∙ e) in
+    let high = c.log_height_lde-log_h.ensures.rows.height in
+    let log = c.log_height_lde-log_h.result in
+    let same = log_same log k (sym high ∙ ap height stored ∙ e) in
     none_above_both k log c.args.added_bits _ _ _ _ same c.in_ok-prepare.ensures.made
-    (none_above (λ (e : EngineState). e.prepared) c.idft_batch.result _ _ _
-    (c.idft_batch.ensures.made _ (sym c.height.ensures.height ∙ c.log2_strict_usize-log_h.ensures.power))
+    (none_above (λ (e : EngineState). e.prepared) c.idft_batch.result _ _ _ (c.idft_batch.ensures.made _ high)
     c.idft_batch.ensures.refused)
     (c.coset_lde_batch_of_coefficients_bit_reversed.ensures.only log (shape.0 ∙ e ∙ ap (λ n. 2 ^ n) (sym same)))
 
@@ -115,27 +95,20 @@ idft_batch-requires g c = record { fits = rw c.into_row_major_matrix-mat.ensures
 
 pub transform-changed-requires : goal.transform-changed-requires
 transform-changed-requires g c =
-    let are =
-    c.in_ok-coefficients.ensures.coefficients.holds c.log2_strict_usize-log_h.result
-    (sym c.height.ensures.height ∙ c.log2_strict_usize-log_h.ensures.power) in
-    c.requires.callable c.in_ok-coefficients.coefficients c.width-width.ensures.whole (rw (← c.into_row_major_matrix-mat.ensures) (are.height, are.width))
+    let are = c.in_ok-coefficients.ensures.coefficients.holds _ c.log_height_lde-log_h.ensures.rows.height in
+    c.requires.callable c.in_ok-coefficients.coefficients c.width-width.ensures.whole
+    (rw (← c.into_row_major_matrix-mat.ensures) (are.height, are.width))
 
 pub returns-in_err-prepare : goal.returns-in_err-prepare
-returns-in_err-prepare g c =
+returns-in_err-prepare g c = rw (← c.into_row_major_matrix-mat.ensures) (
+    let rows = c.log_height_lde-log_h.ensures.rows in
+    let same = ap (λ (e : EngineState). e.prepared) c.in_err-prepare.ensures.refused in
     record {
       values = IfOk-from_err _ _ c.from_residual.ensures.0;
-      only =
-          λ k e. omega (
-            arith,
-            log_same c.log2_strict_usize-log_h.result k (sym c.log2_strict_usize-log_h.ensures.power
-                ∙ c.height.ensures.height ∙ ap height c.into_row_major_matrix-mat.ensures ∙ e),
-            ap (λ (e : EngineState). e.prepared) c.in_err-prepare.ensures.refused,
-          );
+      only = λ k e. no_larger _ _ _ (inl same);
       engine =
-          after_error _ _ _ _ c.from_residual.ensures.0 (only_preparing _ _ _
-          (le_of_eq (ap (λ (e : EngineState). e.prepared) (sym c.in_err-prepare.ensures.refused)))
-          c.prepare.ensures.products) c.prepare.ensures.products (omega arith) (first_of _ _ _ _ (le_refl _) (extended_table_fits
-          _ c.requires.fits (sym (ap height c.into_row_major_matrix-mat.ensures) ∙ sym c.height.ensures.height
-          ∙ c.log2_strict_usize-log_h.ensures.power)) _ _ c.from_residual.result _ c.from_residual.ensures
-          c.in_err-prepare.ensures.room);
-    }
+          after_error _ _ _ _ c.from_residual.ensures.0
+          (only_preparing _ _ _ (le_of_eq (sym same)) c.prepare.ensures.products) c.prepare.ensures.products (omega arith)
+          (first_of _ _ _ _ (le_refl _) (extended_table_fits _ _ rows.whole.width rows.height) _ _ c.from_residual.result _
+          c.from_residual.ensures c.in_err-prepare.ensures.room);
+    })
