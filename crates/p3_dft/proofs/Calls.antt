@@ -2,6 +2,7 @@
 pub mod ColumnCosets
 pub mod Columns
 pub mod Coordinates
+pub mod CountedCalls
 pub mod Counts
 pub mod EngineSteps
 pub mod ExtendedTransforms

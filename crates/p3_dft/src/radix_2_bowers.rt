@@ -10,15 +10,12 @@ ghost use Rattle.p3_matrix.specs.RowMajor.{IsRowMajor, height};
 ghost use Rattle.p3_matrix.specs.Cosets.{AreCoefficients, IsQuotient, IsValues, coset_shift, values_of};
 ghost use Rattle.p3_dft.specs.Engines.{AtLog};
 ghost use Rattle.p3_dft.specs.Shapes.{FitsDft, FitsLde};
-ghost use Rattle.p3_dft.specs.Stored.{HasEntriesOf};
+ghost use Rattle.p3_dft.specs.Stored.{HasEntriesOf, HasTwoPowerRows};
 
 use crate::traits::{Layout, TwoAdicSubgroupDft};
-use crate::util::{divide_rows, exchange_rows, pad_rows};
+use crate::util::{divide_rows, exchange_rows, log_height, pad_rows};
 use p3_field::{Field, Products, TwoAdicField};
-use p3_matrix::{
-    DftError, IntoRowMajorMatrix, RowMajorMatrix, log2_strict_usize, reverse_rows,
-    scale_slice_in_place,
-};
+use p3_matrix::{DftError, IntoRowMajorMatrix, RowMajorMatrix, reverse_rows, scale_slice_in_place};
 use p3_networks::radix_2_bowers::{network_g, network_g_transposed};
 use p3_networks::twiddles::reversed_powers;
 use std::alloc::{AllocError, Global};
@@ -110,8 +107,9 @@ impl<F: TwoAdicField> TwoAdicSubgroupDft<F> for Radix2Bowers {
         if mat.height() == 1 {
             return Ok(mat);
         }
+        let log_h = log_height(&mat);
         reverse_rows(&mut mat);
-        evaluate_to_natural(&mut mat, &mut self.products)?;
+        evaluate_to_natural(&mut mat, log_h, &mut self.products)?;
         Ok(mat)
     }
 
@@ -143,7 +141,8 @@ impl<F: TwoAdicField> TwoAdicSubgroupDft<F> for Radix2Bowers {
         if mat.height() == 1 {
             return Ok(mat);
         }
-        interpolate_to_reversed(&mut mat, &mut self.products)?;
+        let log_h = log_height(&mat);
+        interpolate_to_reversed(&mut mat, log_h, &mut self.products)?;
         reverse_rows(&mut mat);
         Ok(mat)
     }
@@ -171,17 +170,18 @@ impl<F: TwoAdicField> TwoAdicSubgroupDft<F> for Radix2Bowers {
             self.old self.new result (N.stored mat) added_bits }
     {
         let mut mat = mat.into_row_major_matrix();
-        let log_h = log2_strict_usize(mat.height());
+        let log_h = log_height(&mat);
         if log_h + added_bits == 0 {
             let row = transform(mat, Layout::BitReversed);
             // Tells the prover that the rows are whole.
             let _width = row.width();
             return Ok(row);
         }
-        interpolate_to_reversed(&mut mat, &mut self.products)?;
-        let mut changed = transform(mat, Layout::BitReversed);
-        weigh_reversed_rows(&mut changed, F::ONE, shift, &mut self.products)?;
-        extend_to_natural(changed, added_bits, &mut self.products)
+        interpolate_to_reversed(&mut mat, log_h, &mut self.products)?;
+        let changed = transform(mat, Layout::BitReversed);
+        // Tells the prover that the rows are whole.
+        let _same_width = changed.width();
+        extend_to_natural(changed, log_h, added_bits, F::ONE, shift, &mut self.products)
     }
 
     /// As the trait says: one product an entry divides by the height and multiplies by the power of the
@@ -202,18 +202,16 @@ impl<F: TwoAdicField> TwoAdicSubgroupDft<F> for Radix2Bowers {
             self.old self.new result (N.stored mat) added_bits }
     {
         let mut mat = mat.into_row_major_matrix();
-        let log_h = log2_strict_usize(mat.height());
+        let log_h = log_height(&mat);
         if log_h + added_bits == 0 {
             return Ok(mat);
         }
-        let inverse = F::ONE.div_2exp_u64(log_h as u64);
-        interpolate_unscaled_to_reversed(&mut mat, &mut self.products)?;
-        weigh_reversed_rows(&mut mat, inverse, shift, &mut self.products)?;
-        extend_to_natural(mat, added_bits, &mut self.products)
+        interpolate_unscaled_to_reversed(&mut mat, log_h, &mut self.products)?;
+        let scale = F::ONE.div_2exp_u64(log_h as u64);
+        extend_to_natural(mat, log_h, added_bits, scale, shift, &mut self.products)
     }
 
-    /// As the trait says: no row is multiplied by a power of a shift. A matrix of height one without added
-    /// bits is handed back, with no product and no memory taken.
+    /// `coset_lde_batch` with the shift one, whose powers need no memory; its clauses are those of that call.
     fn lde_batch<N: IntoRowMajorMatrix<F>>(
         &mut self,
         mat: N,
@@ -227,32 +225,27 @@ impl<F: TwoAdicField> TwoAdicSubgroupDft<F> for Radix2Bowers {
         ensures engine { AfterLde ⟦<Radix2Bowers as TwoAdicSubgroupDft<F>>⟧.facts (type_size F.row)
             self.old self.new result (N.stored mat) added_bits }
     {
-        let mut mat = mat.into_row_major_matrix();
-        let log_h = log2_strict_usize(mat.height());
-        if log_h + added_bits == 0 {
-            return Ok(mat);
-        }
-        interpolate_to_reversed(&mut mat, &mut self.products)?;
-        extend_to_natural(mat, added_bits, &mut self.products)
+        self.coset_lde_batch(mat, added_bits, F::ONE)
     }
 }
 
 // From coefficients, the values on the subgroup: rows in bit reversed order become rows in natural
-// order. That is network G, of two rows or more.
+// order. That is network G.
 fn evaluate_to_natural<F: TwoAdicField>(
     mat: &mut RowMajorMatrix<F>,
+    log_h: usize,
     products: &mut Products,
 ) -> Result<(), DftError>
-    requires fits { FitsDft F.TWO_ADICITY (height mat.old) mat.old.width }
-    requires several { ¬ (height mat.old ≡ 1) }
-    ensures values { AtLog (height mat.old) (λ k. OnOk result (IsValues F.ring (λ n. F.value (F.generator n))
-        (bit_reversal k (values_of F.Valued.own mat.old)) k F.ring.one (values_of F.Valued.own mat.new))) }
+    requires rows { HasTwoPowerRows mat.old log_h }
+    requires nonzero { 1 ≤ log_h }
+    requires within { log_h ≤ F.TWO_ADICITY }
+    ensures values { OnOk result (IsValues F.ring (λ n. F.value (F.generator n))
+        (bit_reversal log_h (values_of F.Valued.own mat.old)) log_h F.ring.one (values_of F.Valued.own mat.new)) }
     ensures refused { OnErr result (products.new ≡ products.old) }
     ensures grows { products.old ≤ products.new }
-    ensures cost { AtLog (height mat.old) (λ k. products.new ≤ products.old + mat.old.width * (k * 2 ^ k / 2)) }
+    ensures cost { products.new ≤ products.old + mat.old.width * (log_h * 2 ^ log_h / 2) }
     ensures room { IfErr result (IsWithin (type_size F.row) (height mat.old * mat.old.width)) }
 {
-    let log_h = log2_strict_usize(mat.height());
     let width = mat.width();
     let generator = F::two_adic_generator(log_h);
     let twiddles = reversed_powers(*mat.allocator(), F::ONE, generator, log_h - 1)?;
@@ -271,24 +264,23 @@ fn evaluate_to_natural<F: TwoAdicField>(
 // memory.
 fn interpolate_unscaled_to_reversed<F: TwoAdicField>(
     mat: &mut RowMajorMatrix<F>,
+    log_h: usize,
     products: &mut Products,
 ) -> Result<(), DftError>
-    requires fits { FitsDft F.TWO_ADICITY (height mat.old) mat.old.width }
-    ensures whole { IsRowMajor mat.old }
-    ensures same { OnOk result (HasEntriesOf mat.new mat.old) }
-    ensures coefficients { AtLog (height mat.old) (λ k. OnOk result ((c : Matrix F.Element)
-        → IsQuotient F.ring (2 ^ k) (bit_reversal k (values_of F.Valued.own mat.new)) c
-        → AreCoefficients F.ring (λ n. F.value (F.generator n)) (values_of F.Valued.own mat.old) k F.ring.one c)) }
+    requires rows { HasTwoPowerRows mat.old log_h }
+    requires within { log_h ≤ F.TWO_ADICITY }
+    ensures same { HasEntriesOf mat.new mat.old }
+    ensures coefficients { OnOk result ((c : Matrix F.Element)
+        → IsQuotient F.ring (2 ^ log_h) (bit_reversal log_h (values_of F.Valued.own mat.new)) c
+        → AreCoefficients F.ring (λ n. F.value (F.generator n)) (values_of F.Valued.own mat.old) log_h F.ring.one c) }
     ensures refused { OnErr result (products.new ≡ products.old) }
     ensures grows { products.old ≤ products.new }
-    ensures cost { AtLog (height mat.old) (λ k. products.new ≤ products.old + mat.old.width * (k * 2 ^ k / 2)) }
+    ensures cost { products.new ≤ products.old + mat.old.width * (log_h * 2 ^ log_h / 2) }
     ensures room { IfErr result (IsWithin (type_size F.row) (height mat.old * mat.old.width)) }
 {
-    let height = mat.height();
-    if height == 1 {
+    if log_h == 0 {
         return Ok(());
     }
-    let log_h = log2_strict_usize(height);
     let width = mat.width();
     let generator = F::two_adic_generator(log_h);
     let inverse = generator.inverse();
@@ -307,43 +299,78 @@ fn interpolate_unscaled_to_reversed<F: TwoAdicField>(
 // order.
 fn interpolate_to_reversed<F: TwoAdicField>(
     mat: &mut RowMajorMatrix<F>,
+    log_h: usize,
     products: &mut Products,
 ) -> Result<(), DftError>
-    requires fits { FitsDft F.TWO_ADICITY (height mat.old) mat.old.width }
-    ensures coefficients { AtLog (height mat.old)
-        (λ k. OnOk result (AreCoefficients F.ring (λ n. F.value (F.generator n))
-        (values_of F.Valued.own mat.old) k F.ring.one (bit_reversal k (values_of F.Valued.own mat.new)))) }
-    ensures whole { OnOk result (IsRowMajor mat.new) }
+    requires rows { HasTwoPowerRows mat.old log_h }
+    requires within { log_h ≤ F.TWO_ADICITY }
+    ensures same { HasEntriesOf mat.new mat.old }
+    ensures coefficients { OnOk result (AreCoefficients F.ring (λ n. F.value (F.generator n))
+        (values_of F.Valued.own mat.old) log_h F.ring.one (bit_reversal log_h (values_of F.Valued.own mat.new))) }
     ensures refused { OnErr result (products.new ≡ products.old) }
     ensures grows { products.old ≤ products.new }
-    ensures cost { AtLog (height mat.old)
-        (λ k. products.new ≤ products.old + mat.old.width * (k * 2 ^ k / 2) + 2 ^ k * mat.old.width) }
+    ensures cost { products.new
+        ≤ products.old + mat.old.width * (log_h * 2 ^ log_h / 2) + 2 ^ log_h * mat.old.width }
     ensures room { IfErr result (IsWithin (type_size F.row) (height mat.old * mat.old.width)) }
 {
-    interpolate_unscaled_to_reversed(mat, products)?;
+    interpolate_unscaled_to_reversed(mat, log_h, products)?;
     divide_rows(mat, products);
     Ok(())
 }
 
-// From coefficients whose rows lie in bit reversed order, the values on the subgroup of
+// From coefficients whose rows lie in bit reversed order, times `scale`, the values on the coset of `shift` of
 // `2^added_bits` times as many points, which are two or more, in natural order.
 fn extend_to_natural<F: TwoAdicField>(
-    mat: RowMajorMatrix<F>,
+    mut mat: RowMajorMatrix<F>,
+    log_h: usize,
     added_bits: usize,
+    scale: F,
+    shift: F,
     products: &mut Products,
 ) -> Result<RowMajorMatrix<F>, DftError>
+    requires rows { HasTwoPowerRows mat log_h }
     requires fits { FitsLde F.TWO_ADICITY (height mat) mat.width added_bits }
-    requires several { height mat ≡ 1 → ¬ (added_bits ≡ 0) }
-    ensures values { AtLog (height mat) (λ k. IfOk result (λ out. IsValues F.ring (λ n. F.value (F.generator n))
-        (bit_reversal k (values_of F.Valued.own mat)) (k + added_bits) F.ring.one (values_of F.Valued.own out))) }
+    requires nonzero { 1 ≤ log_h + added_bits }
+    ensures values { IfOk result (λ out. IsValues F.ring (λ n. F.value (F.generator n))
+        (image (λ x. F.ring.mul x (F.value scale)) (bit_reversal log_h (values_of F.Valued.own mat)))
+        (log_h + added_bits) (F.value shift) (values_of F.Valued.own out)) }
     ensures grows { products.old ≤ products.new }
-    ensures cost { AtLog (height mat)
-        (λ k. products.new ≤ products.old + mat.width * ((k + added_bits) * 2 ^ (k + added_bits) / 2)) }
+    ensures cost { products.new ≤ products.old + (2 ^ log_h * mat.width
+        + mat.width * ((log_h + added_bits) * 2 ^ (log_h + added_bits) / 2)) }
     ensures room { IfErr result (IsWithin (type_size F.row) (height mat * mat.width * 2 ^ added_bits)) }
 {
-    let mut mat = spread_over_zeros(mat, added_bits)?;
-    evaluate_to_natural(&mut mat, products)?;
-    Ok(mat)
+    weigh_reversed_rows(&mut mat, log_h, scale, shift, products)?;
+    let mut grown = spread_over_zeros(mat, log_h, added_bits)?;
+    evaluate_to_natural(&mut grown, log_h + added_bits, products)?;
+    Ok(grown)
+}
+
+// Multiplies the row of coefficient i by `scale` and the i-th power of `shift`, where rows lie in bit
+// reversed order, with one product an entry. It takes no memory where the shift is one.
+fn weigh_reversed_rows<F: TwoAdicField>(
+    mat: &mut RowMajorMatrix<F>,
+    log_h: usize,
+    scale: F,
+    shift: F,
+    products: &mut Products,
+) -> Result<(), DftError>
+    requires rows { HasTwoPowerRows mat.old log_h }
+    ensures same { HasEntriesOf mat.new mat.old }
+    ensures rows { OnOk result (Same (bit_reversal log_h (values_of F.Valued.own mat.new))
+        (coset_shift F.ring (F.value shift) (image (λ x. F.ring.mul x (F.value scale))
+        (bit_reversal log_h (values_of F.Valued.own mat.old))))) }
+    ensures grows { products.old ≤ products.new }
+    ensures cost { products.new ≤ products.old + 2 ^ log_h * mat.old.width }
+    ensures room { IfErr result (IsWithin (type_size F.row) (height mat.old * mat.old.width)) }
+{
+    if shift == F::ONE {
+        mat.scale(scale, products);
+        return Ok(());
+    }
+    let width = mat.width();
+    let weights = reversed_powers(*mat.allocator(), scale, shift, log_h)?;
+    weigh_rows(weights.as_slice(), mat.values_mut(), width, products);
+    Ok(())
 }
 
 // Multiplies row i by weight i, with one product an entry.
@@ -364,44 +391,22 @@ fn weigh_rows<F: TwoAdicField>(
     }
 }
 
-// Multiplies the row of coefficient i by `scale` and the i-th power of `shift`, where rows lie in bit
-// reversed order, with one product an entry.
-fn weigh_reversed_rows<F: TwoAdicField>(
-    mat: &mut RowMajorMatrix<F>,
-    scale: F,
-    shift: F,
-    products: &mut Products,
-) -> Result<(), DftError>
-    requires power { (k : ℕ) × (height mat.old ≡ 2 ^ k) }
-    ensures whole { IsRowMajor mat.old }
-    ensures rows { AtLog (height mat.old) (λ k. OnOk result (Same (bit_reversal k (values_of F.Valued.own mat.new))
-        (image (λ x. F.ring.mul x (F.value scale))
-        (coset_shift F.ring (F.value shift) (bit_reversal k (values_of F.Valued.own mat.old)))))) }
-    ensures grows { products.old ≤ products.new }
-    ensures cost { products.new ≤ products.old + height mat.old * mat.old.width }
-    ensures room { IfErr result (IsWithin (type_size F.row) (height mat.old * mat.old.width)) }
-{
-    let width = mat.width();
-    let log_h = log2_strict_usize(mat.height());
-    let weights = reversed_powers(*mat.allocator(), scale, shift, log_h)?;
-    weigh_rows(weights.as_slice(), mat.values_mut(), width, products);
-    Ok(())
-}
-
 // Brings row i into the place `i << added_bits`, with rows of zeros in the others. In bit reversed
-// order that is rows of zeros below all others.
+// order that is rows of zeros below all others, which change no value.
 fn spread_over_zeros<F: TwoAdicField>(
     mat: RowMajorMatrix<F>,
+    log_h: usize,
     added_bits: usize,
 ) -> Result<RowMajorMatrix<F>, DftError>
-    requires nonzero { 1 ≤ height mat }
-    requires bits { added_bits < 64 }
-    requires size { height mat * mat.width * 2 ^ added_bits < 2 ^ 64 }
-    ensures shape { IfOk result (λ out. (height out ≡ height mat * 2 ^ added_bits) × (out.width ≡ mat.width)) }
-    ensures rows { IfOk result (λ out. (i j : ℕ) → i < height mat → j < mat.width
-        → (matrix F.zero out).entry (i * 2 ^ added_bits) j ≡ (matrix F.zero mat).entry i j) }
-    ensures others { IfOk result (λ out. (i r j : ℕ) → i < height mat → 0 < r → r < 2 ^ added_bits → j < mat.width
-        → (matrix F.zero out).entry (i * 2 ^ added_bits + r) j ≡ F.zero) }
+    requires rows { HasTwoPowerRows mat log_h }
+    requires fits { FitsLde F.TWO_ADICITY (height mat) mat.width added_bits }
+    ensures rows { IfOk result (λ out. HasTwoPowerRows out (log_h + added_bits)) }
+    ensures width { IfOk result (λ out. out.width ≡ mat.width) }
+    ensures values { IfOk result (λ out. (s : F.Element) (v : Matrix F.Element)
+        → IsValues F.ring (λ n. F.value (F.generator n))
+        (bit_reversal (log_h + added_bits) (values_of F.Valued.own out)) (log_h + added_bits) s v
+        → IsValues F.ring (λ n. F.value (F.generator n))
+        (bit_reversal log_h (values_of F.Valued.own mat)) (log_h + added_bits) s v) }
     ensures room { IfErr result (IsWithin (type_size F.row) (height mat * mat.width * 2 ^ added_bits)) }
 {
     if added_bits == 0 {
@@ -409,8 +414,7 @@ fn spread_over_zeros<F: TwoAdicField>(
     }
     let height = mat.height();
     let mut mat = pad_rows(mat, added_bits)?;
-    for done in 1..height {
-        let row = height - done;
+    for row in (1..height).rev() {
         exchange_rows(&mut mat, row, row << added_bits);
     }
     Ok(mat)

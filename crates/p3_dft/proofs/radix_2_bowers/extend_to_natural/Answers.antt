@@ -1,48 +1,60 @@
-use Rattle.std.proofs.Common.{◌≡◌, ◌+◌, ◌*◌, ◌/◌, ◌^◌, sym, ap, ◌∙◌, arith, pow-add}
+use Rattle.std.proofs.Common.{◌≡◌, ℕ, refl, ◌+◌, ◌*◌, ◌/◌, ◌^◌, ap, ap₂, ◌∙◌, sym, arith}
+use Rattle.p3_matrix.specs.BitOrder.{bit_reversal}
 use Rattle.p3_matrix.specs.Cosets.{values_of}
-use Rattle.p3_matrix.proofs.TwoPowers.{log_same}
-use Rattle.p3_dft.proofs.Calls.Shapes.{output_fits, output_log_small, output_size}
-use Rattle.p3_matrix.proofs.Polynomials.SpreadRows.{values_of_spread}
+use Rattle.p3_matrix.specs.Matrix.{image}
+use Rattle.p3_matrix.proofs.Polynomials.Cosets.{coset_values}
+use Rattle.p3_matrix.proofs.Rooms.{room_of}
+use Rattle.p3_dft.proofs.Calls.Shapes.{both_logs_fit, extended_entries, fewer_of_same, same_extended}
+use Rattle.p3_dft.proofs.Calls.Stored.{rows_still}
+use Rattle.p3_dft.proofs.NetworkG.{fits_lde_still}
 use Rattle.p3_dft.proofs.radix_2_bowers.extend_to_natural.Goals as goal
 
-pub spread_over_zeros-requires-clause-bits : goal.spread_over_zeros-requires-clause-bits
-spread_over_zeros-requires-clause-bits g c = let small = output_log_small _ _ _ _ c.requires.fits in omega (arith, small)
+pub spread_over_zeros-requires-clause-rows : goal.spread_over_zeros-requires-clause-rows
+spread_over_zeros-requires-clause-rows g c =
+    rows_still c.args.mat c.weigh_reversed_rows.new.mat _ c.requires.rows c.weigh_reversed_rows.ensures.same
 
-pub spread_over_zeros-requires-clause-size : goal.spread_over_zeros-requires-clause-size
-spread_over_zeros-requires-clause-size g c = output_size _ _ _ _ c.requires.fits
+pub spread_over_zeros-requires-clause-fits : goal.spread_over_zeros-requires-clause-fits
+spread_over_zeros-requires-clause-fits g c =
+    fits_lde_still c.weigh_reversed_rows.new.mat refl c.args.added_bits c.weigh_reversed_rows.ensures.same.shape c.requires.fits
 
-pub evaluate_to_natural-requires : goal.evaluate_to_natural-requires
-evaluate_to_natural-requires g c =
-    let fits = c.requires.fits in
-    let shape = c.in_ok-mat.ensures.shape in
-    let high = shape.0 ∙ ap (λ h. h * 2 ^ c.args.added_bits) fits.height ∙ sym (pow-add 2 fits.log c.args.added_bits) in
-    record {
-      fits = output_fits _ _ _ c.args.added_bits _ _ fits high shape.1;
-      several =
-          λ one.
-          let sum = log_same (fits.log + c.args.added_bits) 0 (sym high ∙ one) in
-          let none : fits.log ≡ 0 = omega (arith, sum) in
-          c.requires.several (fits.height ∙ ap (λ n. 2 ^ n) none) (omega (arith, sum));
-    }
+pub overflow_add-log_h : goal.overflow_add-log_h
+overflow_add-log_h g c = omega (arith, (both_logs_fit _ _ c.requires.fits c.requires.rows.height refl).3)
+
+pub evaluate_to_natural-requires-clause-within : goal.evaluate_to_natural-requires-clause-within
+evaluate_to_natural-requires-clause-within g c = (both_logs_fit _ _ c.requires.fits c.requires.rows.height refl).2
+
+pub returns-in_err-weigh_reversed_rows-clause-room : goal.returns-in_err-weigh_reversed_rows-clause-room
+returns-in_err-weigh_reversed_rows-clause-room g c =
+    room_of _ c.from_residual.result _ _ _ c.from_residual.ensures (fewer_of_same c.args.added_bits refl refl)
+    c.in_err-weigh_reversed_rows.ensures.room
+
+pub returns-in_err-grown-clause-room : goal.returns-in_err-grown-clause-room
+returns-in_err-grown-clause-room g c =
+    let shape = c.weigh_reversed_rows.ensures.same.shape in
+    room_of _ c.from_residual-in_err-grown.result _ _ _ c.from_residual-in_err-grown.ensures
+    (same_extended c.args.added_bits shape.0 shape.1) c.in_err-grown.ensures.room
+
+pub returns-in_err-evaluate_to_natural-clause-room : goal.returns-in_err-evaluate_to_natural-clause-room
+returns-in_err-evaluate_to_natural-clause-room g c =
+    let wide = c.in_ok-grown.ensures.width ∙ c.weigh_reversed_rows.ensures.same.shape.1 in
+    room_of _ c.from_residual-in_err-evaluate_to_natural.result _ _ _ c.from_residual-in_err-evaluate_to_natural.ensures
+    (omega (arith, extended_entries c.args.log_h c.args.added_bits c.requires.rows.height c.in_ok-grown.ensures.rows.height wide))
+    c.in_err-evaluate_to_natural.ensures.room
 
 pub returns-clause-values : goal.returns-clause-values
-returns-clause-values g c k high =
+returns-clause-values g c =
     let field = g.F.Valued in
-    let a = c.args.added_bits in
-    let given = c.in_ok-mat.ensures in
-    values_of_spread field.ring (λ n. field.value (g.F.TwoAdicField.generator n)) k a field.ring.one
-    (values_of field c.args.mat) (values_of field c.in_ok-mat.mat) (values_of field c.evaluate_to_natural.new.mat)
-    high given.shape.0 given.shape.1
-    (λ i j below inside. ap field.value (given.rows i j below inside))
-    (λ i r j below some less inside. ap field.value (given.others i r j below some less inside)
-    ∙ ap field.value (sym g.met.F.Field.same_zero) ∙ g.met.F.Field.zero_law)
-    (c.in_ok-evaluate_to_natural.ensures.values (k + a) (given.shape.0 ∙ ap (λ h. h * 2 ^ a) high ∙ sym (pow-add 2 k a)))
+    let k = c.args.log_h in
+    let s = field.value c.args.shift in
+    let scaled = image (λ x. field.ring.mul x (field.value c.args.scale)) (bit_reversal k (values_of field c.args.mat)) in
+    let out = values_of field c.evaluate_to_natural.new.mat in
+    coset_values field.ring (λ n. field.value (g.F.TwoAdicField.generator n)) scaled
+    (bit_reversal k (values_of field c.weigh_reversed_rows.new.mat)) (k + c.args.added_bits) s out
+    c.in_ok-weigh_reversed_rows.ensures.rows
+    (c.in_ok-grown.ensures.values field.ring.one out c.in_ok-evaluate_to_natural.ensures.values)
 
 pub returns-clause-cost : goal.returns-clause-cost
-returns-clause-cost g c k high =
-    let a = c.args.added_bits in
-    let shape = c.in_ok-mat.ensures.shape in
-    let cost = c.evaluate_to_natural.ensures.cost (k + a) (shape.0 ∙ ap (λ h. h * 2 ^ a) high ∙ sym (pow-add 2 k a)) in
-    let same : c.in_ok-mat.mat.width * ((k + a) * 2 ^ (k + a) / 2) ≡ c.args.mat.width * ((k + a) * 2 ^ (k + a) / 2) =
-    ap (λ w. w * ((k + a) * 2 ^ (k + a) / 2)) shape.1 in
-    omega (arith, cost, same)
+returns-clause-cost g c =
+    let n = c.args.log_h + c.args.added_bits in
+    let wide = c.in_ok-grown.ensures.width ∙ c.weigh_reversed_rows.ensures.same.shape.1 in
+    omega (arith, c.weigh_reversed_rows.ensures.cost, c.evaluate_to_natural.ensures.cost, ap (λ w. w * (n * 2 ^ n / 2)) wide)

@@ -1,36 +1,34 @@
-use Rattle.std.proofs.Common.{◌≡◌, ℕ, ◌*◌, ◌^◌, ◌<◌, length, get_or, sym, ap, ap₂, ◌∙◌, subst, arith}
-use Rattle.p3_field.specs.Ring.{power}
-use Rattle.p3_matrix.specs.BitOrder.{rev}
-use Rattle.p3_matrix.specs.RowMajor.{height}
-use Rattle.p3_matrix.proofs.TwoPowers.{log_same}
-use Rattle.p3_matrix.specs.Cosets.{values_of}
-use Rattle.p3_networks.proofs.Tables.ReversedPowers.{weighed_rows}
-use Rattle.p3_matrix.proofs.Rows.Overwritten.{written}
-use Rattle.p3_dft.proofs.Calls.Transforms.{entries_of_parts}
+use Rattle.std.proofs.Common.{length, refl, ap, ◌∙◌, rules}
+use Rattle.p3_matrix.proofs.Rooms.{room_of}
+use Rattle.p3_dft.proofs.Calls.Shapes.{powers_fit}
+use Rattle.p3_dft.proofs.Calls.Stored.{entries_written}
+use Rattle.p3_dft.proofs.NetworkG.{scaled_reversed, weighed_reversed}
 use Rattle.p3_dft.proofs.radix_2_bowers.weigh_reversed_rows.Goals as goal
 
+pub returns-clause-same : goal.returns-clause-same
+returns-clause-same g c =
+    entries_written c.args.mat.now _ c.weigh_rows.new.values refl refl (c.weigh_rows.auto.values ∙ ap length c.values_mut.ensures.values)
+
 pub returns-clause-rows : goal.returns-clause-rows
-returns-clause-rows g c k high =
-    let field = g.F.Valued in
-    let m = c.args.mat.now in
-    let w = c.width-width.result in
-    let h = length c.as_slice.result.now in
-    let weight = λ (i : ℕ). field.value (get_or c.as_slice.result.now i field.zero) in
-    let log = c.log2_strict_usize-log_h.result in
-    let tall : height m ≡ 2 ^ log = sym c.height.ensures.height ∙ c.log2_strict_usize-log_h.ensures.power in
-    let same : log ≡ k = log_same log k (sym tall ∙ high) in
-    let weights = c.in_ok-weights.ensures.powers in
-    let count : h ≡ 2 ^ log = ap length c.as_slice.ensures.value ∙ weights.size in
-    let after = c.weigh_rows.new.values in
-    let whole = c.width-width.ensures.whole in
-    let len : length after ≡ length m.values = c.weigh_rows.auto.values ∙ ap length c.values_mut.ensures.values in
-    let size : length after ≡ h * w = len ∙ sym whole.full ∙ ap₂ (λ a b. a * b) (tall ∙ sym count) (sym c.width-width.ensures.width) in
-    weighed_rows field.ring k (field.value c.args.scale) (field.value c.args.shift) (values_of field m) _ weight high
-    (entries_of_parts field m _ c.values_mut.result.now after w h (λ i j x. field.ring.mul x (weight i))
-    c.values_mut.ensures.values c.width-width.ensures.width (count ∙ sym tall)
-    (omega (arith, whole.width, c.width-width.ensures.width)) size (sym c.width-width.ensures.width) (written _ after _ len)
-    c.weigh_rows.ensures.values)
-    (λ b below.
-    let under : b < 2 ^ log = subst (λ (n : ℕ). b < 2 ^ n) (sym same) below in
-    ap (λ xs. field.value (get_or xs b field.zero)) c.as_slice.ensures.value ∙ weights.entries b under
-    ∙ ap (λ n. field.ring.mul (field.value c.args.scale) (power field.ring (field.value c.args.shift) (rev n b))) same)
+returns-clause-rows g c =
+    weighed_reversed g.F.Valued c.args.mat.now _ c.values_mut.result.now c.weigh_rows.new.values _ c.as_slice.result.now _
+    c.width-width.result c.args.log_h _ _ c.requires.rows.whole c.requires.rows.height c.values_mut.ensures.values
+    c.width-width.ensures.width c.weigh_rows.auto.values c.as_slice.ensures.value refl refl c.in_ok-weights.ensures.powers
+    c.weigh_rows.ensures.values
+
+pub returns-in_err-weights-clause-room : goal.returns-in_err-weights-clause-room
+returns-in_err-weights-clause-room g c =
+    room_of _ c.from_residual.result _ _ _ c.from_residual.ensures
+    (powers_fit c.args.log_h c.requires.rows.whole.width c.requires.rows.height) c.in_err-weights.ensures.room
+
+pub returns-then-eq-clause-same : goal.returns-then-eq-clause-same
+returns-then-eq-clause-same g c =
+    (scaled_reversed g.F.Valued c.args.mat.now c.scale.new.self c.args.log_h (g.F.Valued.value c.args.scale) _ c.requires.rows.whole
+    refl c.scale.ensures.width c.scale.ensures.values c.requires.rows.height).0
+
+pub returns-then-eq-clause-rows : goal.returns-then-eq-clause-rows
+returns-then-eq-clause-rows g c =
+    let one =
+    (g.met.F.Field.eq_law c.args.shift c.ONE.result).0 (search rules) ∙ ap g.F.Valued.value c.ONE.ensures ∙ g.met.F.Field.one_law in
+    (scaled_reversed g.F.Valued c.args.mat.now c.scale.new.self c.args.log_h (g.F.Valued.value c.args.scale)
+    (g.F.Valued.value c.args.shift) c.requires.rows.whole one c.scale.ensures.width c.scale.ensures.values c.requires.rows.height).1

@@ -1,0 +1,256 @@
+-- What the engine of network G does beside it: tables of powers, rows in bit reversed order that are weighed and spread, and what calls make of these.
+use Rattle.std.proofs.Common.{◌≡◌, ℕ, zero, suc, ◌+◌, ◌*◌, ◌-◌, ◌%◌, ◌^◌, ◌<◌, ◌≤◌, ◌++◌, List, length, get_or, take, refl, sym, ap, ap₂, ◌∙◌}
+use Rattle.std.proofs.Common.{◌/◌, arith, subst, map, pow_pos}
+use Rattle.std.proofs.lemmas.List.{length-map}
+use Rattle.std.proofs.lemmas.Nat.{mul-add-lt}
+use Rattle.std.proofs.Math.Nat.{mod-eq_of_lt, mul-le-mul_left, mul-le-mul_right, pow-le-pow_right, two-pow-succ}
+use Rattle.p3_field.specs.Ring.{AreRoots, count, power}
+use Rattle.p3_field.specs.declared.fields.Valued.{Ghosts as FieldMembers}
+use Rattle.p3_field.proofs.Powers.{power_of_one}
+use Rattle.p3_field.proofs.Rings
+use Rattle.p3_matrix.specs.BitOrder.{bit_reversal, rev}
+use Rattle.p3_matrix.specs.Cosets.{AreCoefficients, IsQuotient, IsValues, coset_shift, values_of}
+use Rattle.p3_matrix.specs.Matrix.{Matrix, Same, image, matrix, row_exchange}
+use Rattle.p3_matrix.specs.RowMajor.{HasShapeOf, IsRowMajor, RowMajor, height, with_zeros}
+use Rattle.p3_matrix.proofs.BitReversal.{reversed_back, rev-lt, rev-rev}
+use Rattle.p3_matrix.proofs.Matrices.{mapped_same, same_sym}
+use Rattle.p3_matrix.proofs.RowMajor.{whole_kept}
+use Rattle.p3_matrix.proofs.Rows.Overwritten.{value_at, written}
+use Rattle.p3_matrix.proofs.Rows.Padding.{padded_above, padded_below, padded_high, padded_whole}
+use Rattle.p3_matrix.proofs.TwoPowers.{log_same}
+use Rattle.p3_matrix.proofs.Polynomials.Cosets.{coefficients_same}
+use Rattle.p3_matrix.proofs.Polynomials.Interpolation.{same_coefficients}
+use Rattle.p3_matrix.proofs.Polynomials.Quotients.{quotient_of_products}
+use Rattle.p3_matrix.proofs.Polynomials.SpreadRows.{SpreadFrom, spread_exchanged, spread_none, spread_others, spread_rows, values_of_spread}
+use Rattle.p3_networks.specs.Twiddles.{AreTwiddles}
+use Rattle.p3_dft.specs.declared.traits.Layout.{Layout}
+use Rattle.p3_dft.specs.declared.traits.Layout.TheVariants.{BitReversed}
+use Rattle.p3_dft.specs.Extensions.{AreTransformedValues, IsExtension, KeepsShape}
+use Rattle.p3_dft.specs.Shapes.{FitsLde}
+use Rattle.p3_dft.specs.Stored.{HasEntriesOf}
+use Rattle.p3_dft.specs.Transforms.{IsInterpolation, IsTransform}
+use Rattle.p3_dft.proofs.BitReversed.Coefficients.{extension_of_coefficients, interpolation_of_coefficients, values_of_answered}
+use Rattle.p3_dft.proofs.Calls.Shapes.{fits_lde_as, output_size, powers_fit}
+use Rattle.p3_dft.proofs.Calls.Stored.{whole_still}
+use Rattle.p3_dft.proofs.Calls.Transforms.{entries_of_parts}
+
+-- ---- shapes
+-- a table of half the powers of a height has no more entries than a matrix of that height
+pub half_powers_fit : {height width : ℕ} (log : ℕ) → 1 ≤ width → height ≡ 2 ^ log → 2 ^ (log - 1) ≤ height * width
+half_powers_fit log wide high =
+    let half : 2 ^ (log - 1) ≤ 2 ^ log = pow-le-pow_right {n = 2} (omega arith) (omega arith) in
+    omega (arith, half, powers_fit log wide high)
+
+-- where m is the matrix n that was handed over, and x has its shape
+module _ {T : Type 0} {m n : RowMajor T} (x : RowMajor T) (same : m ≡ n) where
+  pub shape_still : HasShapeOf x m → HasShapeOf x n
+  shape_still (tall, wide) = (tall ∙ ap height same, wide ∙ ap (λ (y : RowMajor T). y.width) same)
+
+  -- it can be extended too
+  pub fits_lde_still : {most : ℕ} (a : ℕ) → HasShapeOf x m → FitsLde most (height n) n.width a → FitsLde most (height x) x.width a
+  fits_lde_still a shape fits = let still = shape_still shape in fits_lde_as _ _ _ a _ _ fits still.0 still.1
+
+  -- and what a transform answers of it has that shape
+  pub changed_shape : {may_answer : RowMajor T → RowMajor T → Type 0} (changed : RowMajor T) → IsRowMajor m → HasEntriesOf x m
+      → KeepsShape n may_answer → may_answer x changed → HasShapeOf changed m
+  changed_shape changed whole entries keeps called =
+      let kept = keeps x changed (whole_still m x whole entries) (shape_still entries.shape) called in
+      (kept.0 ∙ sym (ap height same), kept.1 ∙ sym (ap (λ (y : RowMajor T). y.width) same))
+
+-- ---- rows that are spread
+two_places : (a : ℕ) → (a ≡ 0 → ⊥) → 2 ≤ 2 ^ a
+two_places zero some = absurd (some refl)
+two_places (suc a) some = omega (arith, two-pow-succ a, pow_pos a)
+
+module _ {T : Type 0} (z : T) (a : ℕ) (m : RowMajor T) where
+  -- each row i of m from n on is in the place i * 2 ^ a of now, the rows before are where they were, and all others are z
+  pub record RowsSpread (n : ℕ) (now : RowMajor T) : Type 0 where
+    pub whole : IsRowMajor now
+    pub tall : height now ≡ height m * 2 ^ a
+    pub wide : now.width ≡ m.width
+    pub columns : (j : ℕ) → j < m.width → SpreadFrom z (2 ^ a) (height m) n (λ i. (matrix z m).entry i j) (λ i. (matrix z now).entry i j)
+
+  -- none is spread where rows of z are below all of m
+  pub none_spread : (now : RowMajor T) → IsRowMajor m → now ≡ with_zeros z m a → RowsSpread (height m) now
+  none_spread now whole is =
+      subst (RowsSpread (height m)) (sym is)
+      (record {
+        whole = padded_whole z m whole a;
+        tall = padded_high z m whole a;
+        wide = refl;
+        columns = λ j inside.
+            spread_none z (2 ^ a) (height m) _ _ (λ r below. padded_above z m whole a r j below inside)
+            (λ r after below. padded_below z m whole a r j after);
+      })
+
+  -- the place of a row, as a program has it, and the row itself are in the matrix
+  pub places_there : {most : ℕ} (row : ℕ) (now : RowMajor T) → FitsLde most (height m) m.width a → row < height m → height now ≡ height m * 2 ^ a
+      → (row < height now) × (row * 2 ^ a % 2 ^ 64 < height now) × (row * 2 ^ a % 2 ^ 64 ≡ row * 2 ^ a)
+  places_there row now fits below tall =
+      let rows : suc row * 2 ^ a ≤ height m * 2 ^ a = mul-le-mul_right (2 ^ a) below in
+      let entries : 1 * (height m * 2 ^ a) ≤ m.width * (height m * 2 ^ a) = mul-le-mul_right (height m * 2 ^ a) fits.width in
+      let more : height m * 1 ≤ height m * 2 ^ a = mul-le-mul_left (height m) (pow_pos a) in
+      let positive = pow_pos a in
+      let place : row * 2 ^ a % 2 ^ 64 ≡ row * 2 ^ a =
+      mod-eq_of_lt (omega (arith, rows, entries, output_size _ _ _ _ fits, positive)) in
+      (omega (arith, below, more, tall), omega (arith, place, rows, positive, tall), place)
+
+  -- one row more, in exchange for the row of z in its place
+  pub one_spread : (n place : ℕ) (now next : RowMajor T) → (a ≡ 0 → ⊥) → 1 < n → n ≤ height m → place ≡ (n - 1) * 2 ^ a
+      → HasShapeOf next now → length next.values ≡ length now.values
+      → Same (matrix z next) (row_exchange (n - 1) place (matrix z now)) → RowsSpread n now → RowsSpread (n - 1) next
+  one_spread n place now next some two below place_is shape size same spread = record {
+    whole = whole_kept now next spread.whole shape size;
+    tall = shape.0 ∙ spread.tall;
+    wide = shape.1 ∙ spread.wide;
+    columns = λ j inside.
+        let next_is : n ≡ n - 1 + 1 = omega arith in
+        spread_exchanged z (2 ^ a) (height m) (n - 1) (λ i. (matrix z m).entry i j) (matrix z now) (matrix z next) j (two_places a some) (omega arith)
+        (omega arith) spread.tall (omega (arith, inside, spread.wide))
+        (subst (λ (p : ℕ). Same (matrix z next) (row_exchange (n - 1) p (matrix z now))) place_is same)
+        (subst (λ (p : ℕ). SpreadFrom z (2 ^ a) (height m) p (λ i. (matrix z m).entry i j) (λ i. (matrix z now).entry i j)) next_is
+        (spread.columns j inside));
+  }
+
+module _ {F : Type 0} (f : FieldMembers F) (g : ℕ → f.Element) where
+  -- rows of zeros between them change no value
+  pub values_still : {a n : ℕ} {m now : RowMajor F} (k : ℕ) (s : f.Element) (v : Matrix f.Element) → f.value f.zero ≡ f.ring.zero
+      → height m ≡ 2 ^ k → n ≡ 1 → RowsSpread f.zero a m n now
+      → IsValues f.ring g (bit_reversal (k + a) (values_of f now)) (k + a) s v
+      → IsValues f.ring g (bit_reversal k (values_of f m)) (k + a) s v
+  values_still {a} {n} {m} {now} k s v none high all spread given =
+      let column : (j : ℕ) → j < m.width → SpreadFrom f.zero (2 ^ a) (height m) 1 (λ i. (matrix f.zero m).entry i j) (λ i. (matrix f.zero now).entry i j)
+      = λ j inside.
+      subst (λ (p : ℕ). SpreadFrom f.zero (2 ^ a) (height m) p (λ i. (matrix f.zero m).entry i j) (λ i. (matrix f.zero now).entry i j)) all
+      (spread.columns j inside) in
+      values_of_spread f.ring g k a s (values_of f m) (values_of f now) v high spread.tall spread.wide
+      (λ i j below inside. ap f.value (spread_rows f.zero (2 ^ a) (height m) _ _ (column j inside) i below))
+      (λ i r j below some less inside.
+      ap f.value (spread_others f.zero (2 ^ a) (height m) _ _ (column j inside) i r below some less) ∙ none)
+      given
+
+-- ---- tables of powers, and rows that are weighed by them
+module _ {F : Type 0} (f : FieldMembers F) where
+  -- a table of the powers of a root, as a program made it, from one on
+  pub root_powers : (bits : ℕ) (one base : F) (root : f.Element) (made taken : List F) → f.value one ≡ f.ring.one → f.value base ≡ root
+      → taken ≡ made → AreTwiddles f (2 ^ bits) (λ b. f.ring.mul (f.value one) (power f.ring (f.value base) (rev bits b))) made
+      → AreTwiddles f (2 ^ bits) (λ b. power f.ring root (rev bits b)) taken
+  root_powers bits one base root made taken one_is base_is same table = record {
+    size = ap length same ∙ table.size;
+    entries = λ b below.
+        ap (λ xs. f.value (get_or xs b f.zero)) same ∙ table.entries b below
+        ∙ ap₂ (λ x y. f.ring.mul x (power f.ring y (rev bits b))) one_is base_is
+        ∙ Rings.one-mul f.ring (power f.ring root (rev bits b));
+  }
+
+  -- rows in bit reversed order, each times its weight, where a program had their entries and the weights in variables of its own
+  pub weighed_reversed : (m out : RowMajor F) (before after rest weights table : List F) (w k : ℕ) (scale shift : f.Element)
+      → IsRowMajor m → height m ≡ 2 ^ k → before ≡ m.values → w ≡ m.width → length after ≡ length before
+      → weights ≡ table → out.width ≡ m.width → out.values ≡ take (length m.values) (after ++ rest)
+      → AreTwiddles f (2 ^ k) (λ b. f.ring.mul scale (power f.ring shift (rev k b))) table
+      → ((i j : ℕ) → i < length weights → j < w → f.value (get_or after (i * w + j) f.zero)
+      ≡ f.ring.mul (f.value (get_or before (i * w + j) f.zero)) (f.value (get_or weights i f.zero)))
+      → Same (bit_reversal k (values_of f out))
+      (coset_shift f.ring shift (image (λ x. f.ring.mul x scale) (bit_reversal k (values_of f m))))
+  weighed_reversed m out before after rest weights table w k scale shift whole high before_is w_is size weights_is out_width out_values powers entries =
+      let len : length after ≡ length m.values = size ∙ ap length before_is in
+      let many : length weights ≡ 2 ^ k = ap length weights_is ∙ powers.size in
+      let full : length after ≡ 2 ^ k * w = len ∙ sym whole.full ∙ ap₂ ◌*◌ high (sym w_is) in
+      let all =
+      entries_of_parts f m out before after w (2 ^ k) (λ i j x. f.ring.mul x (f.value (get_or weights i f.zero))) before_is w_is (sym high)
+      (omega (arith, whole.width, w_is)) full (out_width ∙ sym w_is) (out_values ∙ written (length m.values) after rest len)
+      (λ i j below inside. entries i j (omega (arith, below, many)) inside) in
+      record {
+        height = all.height;
+        width = all.width;
+        alike = λ i j below inside.
+            let small : i < 2 ^ k = omega (arith, below, all.height, high) in
+            let x = (values_of f m).entry (rev k i) j in
+            all.alike (rev k i) j (omega (arith, rev-lt k i, all.height, high)) inside
+            ∙ ap (f.ring.mul x) (ap (λ xs. f.value (get_or xs (rev k i) f.zero)) weights_is ∙ powers.entries (rev k i) (rev-lt k i)
+            ∙ ap (λ e. f.ring.mul scale (power f.ring shift e)) (rev-rev k i small))
+            ∙ sym (f.ring.mul_assoc x scale (power f.ring shift i));
+      }
+
+  -- the same where each row has one factor, and the shift is one
+  pub scaled_reversed : (m out : RowMajor F) (k : ℕ) (scale shift : f.Element) → IsRowMajor m → shift ≡ f.ring.one → out.width ≡ m.width
+      → map f.value out.values ≡ map (λ x. f.ring.mul x scale) (map f.value m.values) → height m ≡ 2 ^ k
+      → HasEntriesOf out m × Same (bit_reversal k (values_of f out))
+      (coset_shift f.ring shift (image (λ x. f.ring.mul x scale) (bit_reversal k (values_of f m))))
+  scaled_reversed m out k scale shift whole one wide same high =
+      let size : length out.values ≡ length m.values =
+      sym (length-map out.values f.value) ∙ ap length same ∙ length-map (map f.value m.values) (λ x. f.ring.mul x scale) ∙ length-map m.values f.value in
+      let tall : height out ≡ height m = ap₂ ◌/◌ size wide in (
+        record { shape = (tall, wide); size = size },
+        record {
+          height = tall;
+          width = wide;
+          alike = λ i j below inside.
+              let r = rev k i in
+              let y = f.value (get_or m.values (r * m.width + j) f.zero) in
+              let small : r < height m = omega (arith, rev-lt k i, high) in
+              let there = mul-add-lt r m.width j (height m) small (omega (arith, inside, wide)) in
+              ap (λ w. f.value (get_or out.values (r * w + j) f.zero)) wide
+              ∙ value_at f.value (λ x. f.ring.mul x scale) m.values out.values (r * m.width + j) f.zero same size (omega (arith, there, whole.full))
+              ∙ sym (ap (f.ring.mul (f.ring.mul y scale)) (ap (λ s. power f.ring s i) one ∙ power_of_one f.ring i) ∙ f.ring.mul_one (f.ring.mul y scale));
+        },
+      )
+
+-- ---- calls
+module _ {F : Type 0} (f : FieldMembers F) (generator : ℕ → F) {m n : RowMajor F} (k : ℕ) (given : m ≡ n) (high : height m ≡ 2 ^ k) where
+  -- a transform of rows that were reversed
+  pub transform_by_reversal : (r out : RowMajor F) → ((d : F) → Same (matrix d r) (bit_reversal k (matrix d m)))
+      → IsValues f.ring (λ i. f.value (generator i)) (bit_reversal k (values_of f r)) k f.ring.one (values_of f out)
+      → IsTransform f generator n f.ring.one out
+  transform_by_reversal r out rows values l e =
+      let back =
+      reversed_back k (values_of f r) (values_of f m) high (mapped_same f.value (matrix f.zero r) (bit_reversal k (matrix f.zero m)) (rows f.zero)) in
+      let made =
+      coefficients_same f.ring (λ i. f.value (generator i)) (bit_reversal k (values_of f r)) (values_of f m) k f.ring.one (values_of f out)
+      (same_sym (values_of f m) (bit_reversal k (values_of f r)) back) values in
+      subst (λ (x : RowMajor F). IsValues f.ring (λ i. f.value (generator i)) (values_of f x) l f.ring.one (values_of f out)) given
+      (subst (λ (x : ℕ). IsValues f.ring (λ i. f.value (generator i)) (values_of f m) x f.ring.one (values_of f out))
+      (log_same k l (sym high ∙ ap height given ∙ e)) made)
+
+  -- an inverse whose rows are reversed at last
+  pub interpolation_by_reversal : {bits : ℕ} → AreRoots f.ring bits (λ i. f.value (generator i)) → (r out : RowMajor F) → k ≤ bits
+      → ((d : F) → Same (matrix d out) (bit_reversal k (matrix d r)))
+      → AreCoefficients f.ring (λ i. f.value (generator i)) (values_of f m) k f.ring.one (bit_reversal k (values_of f r))
+      → IsInterpolation f generator n f.ring.one out
+  interpolation_by_reversal roots r out within rows are =
+      let back = mapped_same f.value (matrix f.zero out) (bit_reversal k (matrix f.zero r)) (rows f.zero) in
+      subst (λ (x : RowMajor F). IsInterpolation f generator x f.ring.one out) given
+      (interpolation_of_coefficients f generator roots m out k within high
+      (same_coefficients f.ring roots (values_of f m) k f.ring.one (bit_reversal k (values_of f r)) (values_of f out)
+      (same_sym (values_of f out) (bit_reversal k (values_of f r)) back) are))
+
+  -- an extension by coefficients times the height, each times the inverse of it
+  pub extension_by_scale : (out : RowMajor F) (c : Matrix f.Element) (scale s : f.Element) (a : ℕ) → f.ring.mul (count f.ring (2 ^ k)) scale ≡ f.ring.one
+      → ((d : Matrix f.Element) → IsQuotient f.ring (2 ^ k) c d
+      → AreCoefficients f.ring (λ i. f.value (generator i)) (values_of f m) k f.ring.one d)
+      → IsValues f.ring (λ i. f.value (generator i)) (image (λ x. f.ring.mul x scale) c) (k + a) s (values_of f out)
+      → IsExtension f generator n a s out
+  extension_by_scale out c scale s a undone are values =
+      let d = image (λ x. f.ring.mul x scale) c in
+      subst (λ (x : RowMajor F). IsExtension f generator x a s out) given
+      (extension_of_coefficients f generator m out d a k s high
+      (are d (quotient_of_products f.ring (2 ^ k) scale c d undone (record { height = refl; width = refl; alike = λ i j p q. refl }))) values)
+
+  -- an extension of what a transform answered that was given the coefficients, times one
+  pub extension_of_changed : (may_answer : RowMajor F → Layout → RowMajor F → Type 0) (told changed out : RowMajor F) (one s : f.Element) (a : ℕ)
+      → one ≡ f.ring.one
+      → AreCoefficients f.ring (λ i. f.value (generator i)) (values_of f m) k f.ring.one (bit_reversal k (values_of f told))
+      → IsRowMajor m → HasEntriesOf told m → IsRowMajor changed → may_answer told BitReversed changed → HasShapeOf changed m
+      → IsValues f.ring (λ i. f.value (generator i)) (image (λ x. f.ring.mul x one) (bit_reversal k (values_of f changed))) (k + a) s (values_of f out)
+      → AreTransformedValues f generator may_answer BitReversed n a s (values_of f out)
+  extension_of_changed may_answer told changed out one s a is are whole entries changed_is called shape values =
+      let c = bit_reversal k (values_of f changed) in
+      subst (λ (x : RowMajor F). AreTransformedValues f generator may_answer BitReversed x a s (values_of f out)) given
+      (values_of_answered f generator may_answer m told changed a k s (values_of f out) high are (whole_still m told whole entries) changed_is
+      called shape.0
+      (coefficients_same f.ring (λ i. f.value (generator i)) (image (λ x. f.ring.mul x one) c) c (k + a) s (values_of f out)
+      (record {
+        height = refl;
+        width = refl;
+        alike = λ i j below inside. ap (f.ring.mul (c.entry i j)) is ∙ f.ring.mul_one (c.entry i j);
+      }) values))
