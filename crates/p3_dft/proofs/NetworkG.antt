@@ -1,7 +1,7 @@
 -- What the engine of network G does beside it: tables of powers, rows in bit reversed order that are weighed and spread, and what calls make of these.
 use Rattle.std.proofs.Common.{◌≡◌, ℕ, zero, suc, ◌+◌, ◌*◌, ◌-◌, ◌%◌, ◌^◌, ◌<◌, ◌≤◌, ◌++◌, List, length, get_or, take, refl, sym, ap, ap₂, ◌∙◌}
-use Rattle.std.proofs.Common.{◌/◌, arith, subst, map, pow_pos}
-use Rattle.std.proofs.lemmas.List.{length-map}
+use Rattle.std.proofs.Common.{◌/◌, ◌⊎◌, arith, drop, inl, inr, le-add_right, map, pow_pos, rules, subst}
+use Rattle.std.proofs.lemmas.List.{length-map, places}
 use Rattle.std.proofs.lemmas.Nat.{mul-add-lt}
 use Rattle.std.proofs.Math.Nat.{mod-eq_of_lt, mul-le-mul_left, mul-le-mul_right, pow-le-pow_right, two-pow-succ}
 use Rattle.p3_field.specs.Ring.{AreRoots, count, power}
@@ -11,11 +11,12 @@ use Rattle.p3_field.proofs.Rings
 use Rattle.p3_matrix.specs.BitOrder.{bit_reversal, rev}
 use Rattle.p3_matrix.specs.Cosets.{AreCoefficients, IsQuotient, IsValues, coset_shift, values_of}
 use Rattle.p3_matrix.specs.Matrix.{Matrix, Same, image, matrix, row_exchange}
-use Rattle.p3_matrix.specs.RowMajor.{HasShapeOf, IsRowMajor, RowMajor, height, with_zeros}
+use Rattle.p3_matrix.specs.RowMajor.{HasShapeOf, IsRowMajor, RowMajor, height, row, with_zeros}
+use Rattle.p3_matrix.specs.Writes.{with_elements, with_row}
 use Rattle.p3_matrix.proofs.BitReversal.{reversed_back, rev-lt, rev-rev}
 use Rattle.p3_matrix.proofs.Matrices.{mapped_same, same_sym}
-use Rattle.p3_matrix.proofs.RowMajor.{whole_kept}
-use Rattle.p3_matrix.proofs.Rows.Overwritten.{value_at, written}
+use Rattle.p3_matrix.proofs.RowMajor.{row_within, whole_kept}
+use Rattle.p3_matrix.proofs.Rows.Overwritten.{RowsDone, part_at, part_size, rows-next, rows-none, value_at}
 use Rattle.p3_matrix.proofs.Rows.Padding.{padded_above, padded_below, padded_high, padded_whole}
 use Rattle.p3_matrix.proofs.TwoPowers.{log_same}
 use Rattle.p3_matrix.proofs.Polynomials.Cosets.{coefficients_same}
@@ -32,7 +33,6 @@ use Rattle.p3_dft.specs.Transforms.{IsInterpolation, IsTransform}
 use Rattle.p3_dft.proofs.BitReversed.Coefficients.{extension_of_coefficients, interpolation_of_coefficients, values_of_answered}
 use Rattle.p3_dft.proofs.Calls.Shapes.{fits_lde_as, output_size, powers_fit}
 use Rattle.p3_dft.proofs.Calls.Stored.{whole_still}
-use Rattle.p3_dft.proofs.Calls.Transforms.{entries_of_parts}
 
 -- ---- shapes
 -- a table of half the powers of a height has no more entries than a matrix of that height
@@ -130,6 +130,19 @@ module _ {F : Type 0} (f : FieldMembers F) (g : ℕ → f.Element) where
       given
 
 -- ---- tables of powers, and rows that are weighed by them
+-- a list over a part of which another is written
+elements_size : {X : Type 0} (xs ys : List X) (a : ℕ) → length (with_elements xs a ys) ≡ length xs
+elements_size xs ys a = search (rules, places)
+
+elements_outside : {X : Type 0} (xs ys : List X) (a n : ℕ) (d : X) → (n < a) ⊎ (a + length ys ≤ n)
+    → get_or (with_elements xs a ys) n d ≡ get_or xs n d
+elements_outside xs ys a n d (inl before) = search (rules, places)
+elements_outside xs ys a n d (inr after) = search (rules, places)
+
+elements_inside : {X : Type 0} (xs ys : List X) (a j : ℕ) (d : X) → a + length ys ≤ length xs → j < length ys
+    → get_or (with_elements xs a ys) (a + j) d ≡ get_or ys j d
+elements_inside xs ys a j d room inside = search (rules, places)
+
 module _ {F : Type 0} (f : FieldMembers F) where
   -- a table of the powers of a root, as a program made it, from one on
   pub root_powers : (bits : ℕ) (one base : F) (root : f.Element) (made taken : List F) → f.value one ≡ f.ring.one → f.value base ≡ root
@@ -143,36 +156,71 @@ module _ {F : Type 0} (f : FieldMembers F) where
         ∙ Rings.one-mul f.ring (power f.ring root (rev bits b));
   }
 
-  -- rows in bit reversed order, each times its weight, where a program had their entries and the weights in variables of its own
-  pub weighed_reversed : (m out : RowMajor F) (before after rest weights table : List F) (w k : ℕ) (scale shift : f.Element)
-      → IsRowMajor m → height m ≡ 2 ^ k → before ≡ m.values → w ≡ m.width → length after ≡ length before
-      → weights ≡ table → out.width ≡ m.width → out.values ≡ take (length m.values) (after ++ rest)
-      → AreTwiddles f (2 ^ k) (λ b. f.ring.mul scale (power f.ring shift (rev k b))) table
-      → ((i j : ℕ) → i < length weights → j < w → f.value (get_or after (i * w + j) f.zero)
-      ≡ f.ring.mul (f.value (get_or before (i * w + j) f.zero)) (f.value (get_or weights i f.zero)))
-      → Same (bit_reversal k (values_of f out))
-      (coset_shift f.ring shift (image (λ x. f.ring.mul x scale) (bit_reversal k (values_of f m))))
-  weighed_reversed m out before after rest weights table w k scale shift whole high before_is w_is size weights_is out_width out_values powers entries =
-      let len : length after ≡ length m.values = size ∙ ap length before_is in
-      let many : length weights ≡ 2 ^ k = ap length weights_is ∙ powers.size in
-      let full : length after ≡ 2 ^ k * w = len ∙ sym whole.full ∙ ap₂ ◌*◌ high (sym w_is) in
-      let all =
-      entries_of_parts f m out before after w (2 ^ k) (λ i j x. f.ring.mul x (f.value (get_or weights i f.zero))) before_is w_is (sym high)
-      (omega (arith, whole.width, w_is)) full (out_width ∙ sym w_is) (out_values ∙ written (length m.values) after rest len)
-      (λ i j below inside. entries i j (omega (arith, below, many)) inside) in
-      record {
-        height = all.height;
-        width = all.width;
-        alike = λ i j below inside.
-            let small : i < 2 ^ k = omega (arith, below, all.height, high) in
-            let x = (values_of f m).entry (rev k i) j in
-            all.alike (rev k i) j (omega (arith, rev-lt k i, all.height, high)) inside
-            ∙ ap (f.ring.mul x) (ap (λ xs. f.value (get_or xs (rev k i) f.zero)) weights_is ∙ powers.entries (rev k i) (rev-lt k i)
-            ∙ ap (λ e. f.ring.mul scale (power f.ring shift e)) (rev-rev k i small))
-            ∙ sym (f.ring.mul_assoc x scale (power f.ring shift i));
-      }
+  module _ (weight : ℕ → f.Element) (m : RowMajor F) where
+    abbrev IsWeighed : ℕ → ℕ → F → Type 0
+    IsWeighed p j y = f.value y ≡ f.ring.mul (f.value (get_or m.values (p * m.width + j) f.zero)) (weight p)
 
-  -- the same where each row has one factor, and the shift is one
+    -- the first i rows of now are those of m, each times its weight, and the others are those of m
+    pub record RowsWeighed (i : ℕ) (now : RowMajor F) : Type 0 where
+      pub wide : now.width ≡ m.width
+      pub rows : RowsDone f.zero m.width IsWeighed m.values i now.values
+
+    pub none_weighed : RowsWeighed 0 m
+    none_weighed = record { wide = refl; rows = rows-none f.zero _ _ _ }
+
+    -- one row more, which was lent as a part of its own
+    pub one_weighed : (i : ℕ) (now : RowMajor F) (part ys : List F) (factor : f.Element) → IsRowMajor m → i < height m
+        → part ≡ row now i → length ys ≡ length part → map f.value ys ≡ map (λ x. f.ring.mul x factor) (map f.value part)
+        → factor ≡ weight i → RowsWeighed i now → RowsWeighed (i + 1) (with_row now i ys) × (length part ≡ m.width)
+    one_weighed i now part ys factor whole below is size values factor_is so_far =
+        let w = m.width in
+        let a = i * w in
+        let within : a + w ≤ length now.values = omega (arith, row_within i (height m) w (length m.values) below whole.full, so_far.rows.size) in
+        let full : a + w - a ≡ w = omega arith in
+        let part_is : part ≡ take w (drop a now.values) =
+        is ∙ ap (λ v. take (i * v + v - i * v) (drop (i * v) now.values)) so_far.wide ∙ ap (λ n. take n (drop a now.values)) full in
+        let part_size : length part ≡ w = ap length part_is ∙ part_size now.values a w within in
+        let len : length ys ≡ w = size ∙ part_size in (
+          record {
+            wide = so_far.wide;
+            rows =
+                subst (λ (v : ℕ). RowsDone f.zero w IsWeighed m.values (i + 1) (with_elements now.values (i * v) ys)) (sym so_far.wide)
+                (rows-next f.zero w IsWeighed m.values now.values (with_elements now.values a ys) i (elements_size now.values ys a)
+                (λ n outside. elements_outside now.values ys a n f.zero (subst (λ (l : ℕ). (n < a) ⊎ (a + l ≤ n)) (sym len) outside))
+                (λ j inside. ap f.value (elements_inside now.values ys a j f.zero (omega (arith, len, within)) (omega (arith, inside, len)))
+                ∙ value_at f.value (λ x. f.ring.mul x factor) part ys j f.zero values size (omega (arith, inside, part_size))
+                ∙ ap₂ f.ring.mul (ap f.value (ap (λ xs. get_or xs j f.zero) part_is ∙ part_at now.values a w j f.zero inside
+                ∙ so_far.rows.rest (a + j) (le-add_right a j))) factor_is) so_far.rows);
+          },
+          part_size,
+        )
+
+  -- all rows of a matrix whose rows lie in bit reversed order, by powers in that order
+  pub all_weighed : (m now : RowMajor F) (weights table : List F) (i k : ℕ) (scale shift : f.Element) → IsRowMajor m → height m ≡ 2 ^ k
+      → weights ≡ table → AreTwiddles f (2 ^ k) (λ b. f.ring.mul scale (power f.ring shift (rev k b))) table → length weights ≤ i
+      → RowsWeighed (λ p. f.value (get_or weights p f.zero)) m i now
+      → HasEntriesOf now m × Same (bit_reversal k (values_of f now))
+      (coset_shift f.ring shift (image (λ x. f.ring.mul x scale) (bit_reversal k (values_of f m))))
+  all_weighed m now weights table i k scale shift whole high weights_is powers done all =
+      let tall : height now ≡ height m = ap₂ ◌/◌ all.rows.size all.wide in (
+        record { shape = (tall, all.wide); size = all.rows.size },
+        record {
+          height = tall;
+          width = all.wide;
+          alike = λ p j below inside.
+              let small : p < 2 ^ k = omega (arith, below, tall, high) in
+              let r = rev k p in
+              let y = f.value (get_or m.values (r * m.width + j) f.zero) in
+              let many : length weights ≡ 2 ^ k = ap length weights_is ∙ powers.size in
+              ap (λ w. f.value (get_or now.values (r * w + j) f.zero)) all.wide
+              ∙ all.rows.done r j (omega (arith, rev-lt k p, many, done)) (omega (arith, inside, all.wide))
+              ∙ ap (f.ring.mul y) (ap (λ xs. f.value (get_or xs r f.zero)) weights_is ∙ powers.entries r (rev-lt k p)
+              ∙ ap (λ e. f.ring.mul scale (power f.ring shift e)) (rev-rev k p small))
+              ∙ sym (f.ring.mul_assoc y scale (power f.ring shift p));
+        },
+      )
+
+  -- the same where all rows have one factor, and the shift is one
   pub scaled_reversed : (m out : RowMajor F) (k : ℕ) (scale shift : f.Element) → IsRowMajor m → shift ≡ f.ring.one → out.width ≡ m.width
       → map f.value out.values ≡ map (λ x. f.ring.mul x scale) (map f.value m.values) → height m ≡ 2 ^ k
       → HasEntriesOf out m × Same (bit_reversal k (values_of f out))

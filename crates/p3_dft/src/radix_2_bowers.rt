@@ -367,28 +367,12 @@ fn weigh_reversed_rows<F: TwoAdicField>(
         mat.scale(scale, products);
         return Ok(());
     }
-    let width = mat.width();
-    let weights = reversed_powers(*mat.allocator(), scale, shift, log_h)?;
-    weigh_rows(weights.as_slice(), mat.values_mut(), width, products);
-    Ok(())
-}
-
-// Multiplies row i by weight i, with one product an entry.
-fn weigh_rows<F: TwoAdicField>(
-    weights: &[F],
-    values: &mut [F],
-    width: usize,
-    products: &mut Products,
-)
-    requires full { length values.old ≡ length weights.now * width }
-    ensures values { (i j : ℕ) → i < length weights.now → j < width → F.value (get_or values.new (i * width + j) F.zero)
-        ≡ F.ring.mul (F.value (get_or values.old (i * width + j) F.zero)) (F.value (get_or weights.now i F.zero)) }
-    ensures count { products.new ≡ products.old + length weights.now * width }
-{
+    let powers = reversed_powers(*mat.allocator(), scale, shift, log_h)?;
+    let weights = powers.as_slice();
     for i in 0..weights.len() {
-        let start = i * width;
-        scale_slice_in_place(&mut values[start..start + width], weights[i], products);
+        scale_slice_in_place(mat.row_mut(i), weights[i], products);
     }
+    Ok(())
 }
 
 // Brings row i into the place `i << added_bits`, with rows of zeros in the others. In bit reversed

@@ -1,25 +1,52 @@
-use Rattle.std.proofs.Common.{length, refl, ap, ◌∙◌, rules}
+use Rattle.std.proofs.Common.{◌≡◌, ◌/◌, length, refl, sym, ap, ap₂, ◌∙◌, arith, rules, lt_of_lt_of_le}
+use Rattle.std.proofs.lemmas.List.{get_or_read_under}
+use Rattle.p3_networks.proofs.Layers.Counts.{turn_counted}
+use Rattle.p3_matrix.specs.RowMajor.{height}
 use Rattle.p3_matrix.proofs.Rooms.{room_of}
 use Rattle.p3_dft.proofs.Calls.Shapes.{powers_fit}
-use Rattle.p3_dft.proofs.Calls.Stored.{entries_written}
-use Rattle.p3_dft.proofs.NetworkG.{scaled_reversed, weighed_reversed}
+use Rattle.p3_dft.proofs.NetworkG.{all_weighed, none_weighed, one_weighed, scaled_reversed}
 use Rattle.p3_dft.proofs.radix_2_bowers.weigh_reversed_rows.Goals as goal
+
+pub loop-i-init : goal.loop-i-init
+loop-i-init g c = record { rows = none_weighed _ _ _; count = omega arith }
+
+pub row_mut-requires : goal.row_mut-requires
+row_mut-requires g c =
+    let many = ap length c.as_slice-weights.ensures.value ∙ c.in_ok-powers.ensures.powers.size in
+    let tall : height c.loop-i.mat ≡ height c.args.mat.now = ap₂ ◌/◌ c.loop-i.invariant.rows.rows.size c.loop-i.invariant.rows.wide in
+    omega (arith, c.loop-i-test.true, many, tall, c.requires.rows.height)
+
+pub loop-i-preserved : goal.loop-i-preserved
+loop-i-preserved g c =
+    let i = c.loop-i.i in
+    let many = ap length c.as_slice-weights.ensures.value ∙ c.in_ok-powers.ensures.powers.size in
+    let weight = get_or_read_under c.as_slice-weights.result.now i _ _ g.F.Valued.zero c.index-weights-i.is c.loop-i-test.true refl in
+    let (rows, size) =
+    one_weighed g.F.Valued _ c.args.mat.now i c.loop-i.mat c.row_mut.result.now c.scale_slice_in_place.new.values _ c.requires.rows.whole
+    (omega (arith, c.loop-i-test.true, many, c.requires.rows.height)) c.row_mut.ensures.row c.scale_slice_in_place.auto.values
+    c.scale_slice_in_place.ensures.values (ap g.F.Valued.value weight) c.loop-i.invariant.rows in
+    record {
+      rows = rows;
+      count = turn_counted i c.args.mat.now.width _ c.args.products.now c.loop-i.products c.scale_slice_in_place.new.products size
+          c.loop-i.invariant.count c.scale_slice_in_place.ensures.count;
+    }
 
 pub returns-clause-same : goal.returns-clause-same
 returns-clause-same g c =
-    entries_written c.args.mat.now _ c.weigh_rows.new.values refl refl (c.weigh_rows.auto.values ∙ ap length c.values_mut.ensures.values)
+    (all_weighed g.F.Valued c.args.mat.now c.loop-i.mat c.as_slice-weights.result.now _ c.loop-i.i c.args.log_h _ _ c.requires.rows.whole
+    c.requires.rows.height c.as_slice-weights.ensures.value c.in_ok-powers.ensures.powers (omega (arith, c.loop-i-test.false))
+    c.loop-i.invariant.rows).0
 
 pub returns-clause-rows : goal.returns-clause-rows
 returns-clause-rows g c =
-    weighed_reversed g.F.Valued c.args.mat.now _ c.values_mut.result.now c.weigh_rows.new.values _ c.as_slice.result.now _
-    c.width-width.result c.args.log_h _ _ c.requires.rows.whole c.requires.rows.height c.values_mut.ensures.values
-    c.width-width.ensures.width c.weigh_rows.auto.values c.as_slice.ensures.value refl refl c.in_ok-weights.ensures.powers
-    c.weigh_rows.ensures.values
+    (all_weighed g.F.Valued c.args.mat.now c.loop-i.mat c.as_slice-weights.result.now _ c.loop-i.i c.args.log_h _ _ c.requires.rows.whole
+    c.requires.rows.height c.as_slice-weights.ensures.value c.in_ok-powers.ensures.powers (omega (arith, c.loop-i-test.false))
+    c.loop-i.invariant.rows).1
 
-pub returns-in_err-weights-clause-room : goal.returns-in_err-weights-clause-room
-returns-in_err-weights-clause-room g c =
+pub returns-in_err-powers-clause-room : goal.returns-in_err-powers-clause-room
+returns-in_err-powers-clause-room g c =
     room_of _ c.from_residual.result _ _ _ c.from_residual.ensures
-    (powers_fit c.args.log_h c.requires.rows.whole.width c.requires.rows.height) c.in_err-weights.ensures.room
+    (powers_fit c.args.log_h c.requires.rows.whole.width c.requires.rows.height) c.in_err-powers.ensures.room
 
 pub returns-then-eq-clause-same : goal.returns-then-eq-clause-same
 returns-then-eq-clause-same g c =
