@@ -1,7 +1,7 @@
 -- What the engine of network G does beside it: tables of powers, rows in bit reversed order that are weighed and spread, and what calls make of these.
 use Rattle.std.proofs.Common.{◌≡◌, ℕ, zero, suc, ◌+◌, ◌*◌, ◌-◌, ◌%◌, ◌^◌, ◌<◌, ◌≤◌, ◌++◌, List, length, get_or, take, refl, sym, ap, ap₂, ◌∙◌}
 use Rattle.std.proofs.Common.{◌/◌, ◌⊎◌, arith, drop, inl, inr, le-add_right, map, pow_pos, rules, subst}
-use Rattle.std.proofs.lemmas.List.{length-map, places}
+use Rattle.std.proofs.lemmas.List.{get_or_past, length-map, places}
 use Rattle.std.proofs.lemmas.Nat.{mul-add-lt}
 use Rattle.std.proofs.Math.Nat.{mod-eq_of_lt, mul-le-mul_left, mul-le-mul_right, pow-le-pow_right, two-pow-succ}
 use Rattle.p3_field.specs.Ring.{AreRoots, count, power}
@@ -196,53 +196,58 @@ module _ {F : Type 0} (f : FieldMembers F) where
         )
 
   -- all rows of a matrix whose rows lie in bit reversed order, by powers in that order
-  pub all_weighed : (m now : RowMajor F) (weights table : List F) (i k : ℕ) (scale shift : f.Element) → IsRowMajor m → height m ≡ 2 ^ k
+  pub all_weighed : (weight : ℕ → f.Element) (m now : RowMajor F) (i k : ℕ) (scale shift : f.Element) → height m ≡ 2 ^ k → height m ≤ i
+      → ((b : ℕ) → b < 2 ^ k → weight b ≡ f.ring.mul scale (power f.ring shift (rev k b))) → RowsWeighed weight m i now
+      → Same (bit_reversal k (values_of f now))
+      (coset_shift f.ring shift (image (λ x. f.ring.mul x scale) (bit_reversal k (values_of f m))))
+  all_weighed weight m now i k scale shift high done powers all =
+      let tall : height now ≡ height m = ap₂ ◌/◌ all.rows.size all.wide in
+      record {
+        height = tall;
+        width = all.wide;
+        alike = λ p j below inside.
+            let small : p < 2 ^ k = omega (arith, below, tall, high) in
+            let r = rev k p in
+            let y = f.value (get_or m.values (r * m.width + j) f.zero) in
+            ap (λ w. f.value (get_or now.values (r * w + j) f.zero)) all.wide
+            ∙ all.rows.done r j (omega (arith, rev-lt k p, high, done)) (omega (arith, inside, all.wide))
+            ∙ ap (f.ring.mul y) (powers r (rev-lt k p) ∙ ap (λ e. f.ring.mul scale (power f.ring shift e)) (rev-rev k p small))
+            ∙ sym (f.ring.mul_assoc y scale (power f.ring shift p));
+      }
+
+  -- the same by a table of these powers
+  pub weighed_by_table : (m now : RowMajor F) (weights table : List F) (i k : ℕ) (scale shift : f.Element) → height m ≡ 2 ^ k
       → weights ≡ table → AreTwiddles f (2 ^ k) (λ b. f.ring.mul scale (power f.ring shift (rev k b))) table → length weights ≤ i
       → RowsWeighed (λ p. f.value (get_or weights p f.zero)) m i now
-      → HasEntriesOf now m × Same (bit_reversal k (values_of f now))
+      → Same (bit_reversal k (values_of f now))
       (coset_shift f.ring shift (image (λ x. f.ring.mul x scale) (bit_reversal k (values_of f m))))
-  all_weighed m now weights table i k scale shift whole high weights_is powers done all =
-      let tall : height now ≡ height m = ap₂ ◌/◌ all.rows.size all.wide in (
-        record { shape = (tall, all.wide); size = all.rows.size },
-        record {
-          height = tall;
-          width = all.wide;
-          alike = λ p j below inside.
-              let small : p < 2 ^ k = omega (arith, below, tall, high) in
-              let r = rev k p in
-              let y = f.value (get_or m.values (r * m.width + j) f.zero) in
-              let many : length weights ≡ 2 ^ k = ap length weights_is ∙ powers.size in
-              ap (λ w. f.value (get_or now.values (r * w + j) f.zero)) all.wide
-              ∙ all.rows.done r j (omega (arith, rev-lt k p, many, done)) (omega (arith, inside, all.wide))
-              ∙ ap (f.ring.mul y) (ap (λ xs. f.value (get_or xs r f.zero)) weights_is ∙ powers.entries r (rev-lt k p)
-              ∙ ap (λ e. f.ring.mul scale (power f.ring shift e)) (rev-rev k p small))
-              ∙ sym (f.ring.mul_assoc y scale (power f.ring shift p));
-        },
-      )
+  weighed_by_table m now weights table i k scale shift high same powers done all =
+      all_weighed _ m now i k scale shift high (omega (arith, high, ap length same, powers.size, done))
+      (λ b below. ap (λ xs. f.value (get_or xs b f.zero)) same ∙ powers.entries b below) all
 
-  -- the same where all rows have one factor, and the shift is one
-  pub scaled_reversed : (m out : RowMajor F) (k : ℕ) (scale shift : f.Element) → IsRowMajor m → shift ≡ f.ring.one → out.width ≡ m.width
-      → map f.value out.values ≡ map (λ x. f.ring.mul x scale) (map f.value m.values) → height m ≡ 2 ^ k
-      → HasEntriesOf out m × Same (bit_reversal k (values_of f out))
+  -- and where the shift is one, by one factor
+  pub weighed_alike : (m now : RowMajor F) (k : ℕ) (scale shift : f.Element) → IsRowMajor m → height m ≡ 2 ^ k → shift ≡ f.ring.one
+      → now.width ≡ m.width → map f.value now.values ≡ map (λ x. f.ring.mul x scale) (map f.value m.values)
+      → Same (bit_reversal k (values_of f now))
       (coset_shift f.ring shift (image (λ x. f.ring.mul x scale) (bit_reversal k (values_of f m))))
-  scaled_reversed m out k scale shift whole one wide same high =
-      let size : length out.values ≡ length m.values =
-      sym (length-map out.values f.value) ∙ ap length same ∙ length-map (map f.value m.values) (λ x. f.ring.mul x scale) ∙ length-map m.values f.value in
-      let tall : height out ≡ height m = ap₂ ◌/◌ size wide in (
-        record { shape = (tall, wide); size = size },
-        record {
-          height = tall;
-          width = wide;
-          alike = λ i j below inside.
-              let r = rev k i in
-              let y = f.value (get_or m.values (r * m.width + j) f.zero) in
-              let small : r < height m = omega (arith, rev-lt k i, high) in
-              let there = mul-add-lt r m.width j (height m) small (omega (arith, inside, wide)) in
-              ap (λ w. f.value (get_or out.values (r * w + j) f.zero)) wide
-              ∙ value_at f.value (λ x. f.ring.mul x scale) m.values out.values (r * m.width + j) f.zero same size (omega (arith, there, whole.full))
-              ∙ sym (ap (f.ring.mul (f.ring.mul y scale)) (ap (λ s. power f.ring s i) one ∙ power_of_one f.ring i) ∙ f.ring.mul_one (f.ring.mul y scale));
-        },
-      )
+  weighed_alike m now k scale shift whole high one wide same =
+      let h = height m in
+      let size : length now.values ≡ length m.values =
+      sym (length-map now.values f.value) ∙ ap length same ∙ length-map (map f.value m.values) (λ x. f.ring.mul x scale) ∙ length-map m.values f.value in
+      all_weighed (λ p. scale) m now (2 ^ k) k scale shift high (omega (arith, high))
+      (λ b below. sym (ap (f.ring.mul scale) (ap (λ s. power f.ring s (rev k b)) one ∙ power_of_one f.ring (rev k b)) ∙ f.ring.mul_one scale))
+      (record {
+        wide = wide;
+        rows = record {
+          size = size;
+          done = λ p j below inside.
+              value_at f.value (λ x. f.ring.mul x scale) m.values now.values (p * m.width + j) f.zero same size
+              (omega (arith, mul-add-lt p m.width j h (omega (arith, below, high)) inside, whole.full));
+          rest = λ n after.
+              let past : length m.values ≤ n = omega (arith, after, ap (λ r. r * m.width) high, whole.full) in
+              get_or_past now.values n f.zero (omega (arith, past, size)) ∙ sym (get_or_past m.values n f.zero past);
+        };
+      })
 
 -- ---- calls
 module _ {F : Type 0} (f : FieldMembers F) (generator : ℕ → F) {m n : RowMajor F} (k : ℕ) (given : m ≡ n) (high : height m ≡ 2 ^ k) where

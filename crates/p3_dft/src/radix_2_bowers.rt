@@ -355,7 +355,6 @@ fn weigh_reversed_rows<F: TwoAdicField>(
     products: &mut Products,
 ) -> Result<(), DftError>
     requires rows { HasTwoPowerRows mat.old log_h }
-    ensures same { HasEntriesOf mat.new mat.old }
     ensures rows { OnOk result (Same (bit_reversal log_h (values_of F.Valued.own mat.new))
         (coset_shift F.ring (F.value shift) (image (λ x. F.ring.mul x (F.value scale))
         (bit_reversal log_h (values_of F.Valued.own mat.old))))) }
@@ -382,7 +381,7 @@ fn spread_over_zeros<F: TwoAdicField>(
     log_h: usize,
     added_bits: usize,
 ) -> Result<RowMajorMatrix<F>, DftError>
-    requires rows { HasTwoPowerRows mat log_h }
+    requires height { height mat ≡ 2 ^ log_h }
     requires fits { FitsLde F.TWO_ADICITY (height mat) mat.width added_bits }
     ensures rows { IfOk result (λ out. HasTwoPowerRows out (log_h + added_bits)) }
     ensures width { IfOk result (λ out. out.width ≡ mat.width) }
@@ -393,10 +392,10 @@ fn spread_over_zeros<F: TwoAdicField>(
         (bit_reversal log_h (values_of F.Valued.own mat)) (log_h + added_bits) s v) }
     ensures room { IfErr result (IsWithin (type_size F.row) (height mat * mat.width * 2 ^ added_bits)) }
 {
+    let height = mat.height();
     if added_bits == 0 {
         return Ok(mat);
     }
-    let height = mat.height();
     let mut mat = pad_rows(mat, added_bits)?;
     for row in (1..height).rev() {
         exchange_rows(&mut mat, row, row << added_bits);

@@ -9,11 +9,6 @@ network_g-requires-clause-twiddles g c =
     root_powers g.F.Valued _ _ _ _ _ _ (ap g.F.Valued.value c.ONE.ensures ∙ g.met.F.Field.one_law)
     c.two_adic_generator-generator.ensures c.as_slice.ensures.value c.in_ok-twiddles.ensures.powers
 
-pub returns-in_err-twiddles-clause-room : goal.returns-in_err-twiddles-clause-room
-returns-in_err-twiddles-clause-room g c =
-    room_of _ c.from_residual.result _ _ _ c.from_residual.ensures
-    (half_powers_fit c.args.log_h c.requires.rows.whole.width c.requires.rows.height) c.in_err-twiddles.ensures.room
-
 pub returns-clause-values : goal.returns-clause-values
 returns-clause-values g c =
     values_of_parts g.F.Valued g.F.TwoAdicField.generator c.args.mat.now _ c.values_mut.result.now c.network_g.new.values _

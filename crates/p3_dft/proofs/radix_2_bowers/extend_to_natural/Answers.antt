@@ -5,20 +5,8 @@ use Rattle.p3_matrix.specs.Matrix.{image}
 use Rattle.p3_matrix.proofs.Polynomials.Cosets.{coset_values}
 use Rattle.p3_matrix.proofs.Rooms.{room_of}
 use Rattle.p3_dft.proofs.Calls.Shapes.{both_logs_fit, extended_entries, fewer_of_same, same_extended}
-use Rattle.p3_dft.proofs.Calls.Stored.{rows_still}
 use Rattle.p3_dft.proofs.NetworkG.{fits_lde_still}
 use Rattle.p3_dft.proofs.radix_2_bowers.extend_to_natural.Goals as goal
-
-pub spread_over_zeros-requires-clause-rows : goal.spread_over_zeros-requires-clause-rows
-spread_over_zeros-requires-clause-rows g c =
-    rows_still c.args.mat c.weigh_reversed_rows.new.mat _ c.requires.rows c.weigh_reversed_rows.ensures.same
-
-pub spread_over_zeros-requires-clause-fits : goal.spread_over_zeros-requires-clause-fits
-spread_over_zeros-requires-clause-fits g c =
-    fits_lde_still c.weigh_reversed_rows.new.mat refl c.args.added_bits c.weigh_reversed_rows.ensures.same.shape c.requires.fits
-
-pub overflow_add-log_h : goal.overflow_add-log_h
-overflow_add-log_h g c = omega (arith, (both_logs_fit _ _ c.requires.fits c.requires.rows.height refl).3)
 
 pub evaluate_to_natural-requires-clause-within : goal.evaluate_to_natural-requires-clause-within
 evaluate_to_natural-requires-clause-within g c = (both_logs_fit _ _ c.requires.fits c.requires.rows.height refl).2
@@ -28,15 +16,9 @@ returns-in_err-weigh_reversed_rows-clause-room g c =
     room_of _ c.from_residual.result _ _ _ c.from_residual.ensures (fewer_of_same c.args.added_bits refl refl)
     c.in_err-weigh_reversed_rows.ensures.room
 
-pub returns-in_err-grown-clause-room : goal.returns-in_err-grown-clause-room
-returns-in_err-grown-clause-room g c =
-    let shape = c.weigh_reversed_rows.ensures.same.shape in
-    room_of _ c.from_residual-in_err-grown.result _ _ _ c.from_residual-in_err-grown.ensures
-    (same_extended c.args.added_bits shape.0 shape.1) c.in_err-grown.ensures.room
-
 pub returns-in_err-evaluate_to_natural-clause-room : goal.returns-in_err-evaluate_to_natural-clause-room
 returns-in_err-evaluate_to_natural-clause-room g c =
-    let wide = c.in_ok-grown.ensures.width ∙ c.weigh_reversed_rows.ensures.same.shape.1 in
+    let wide = c.in_ok-grown.ensures.width ∙ c.in_ok-weigh_reversed_rows.ensures.rows.width in
     room_of _ c.from_residual-in_err-evaluate_to_natural.result _ _ _ c.from_residual-in_err-evaluate_to_natural.ensures
     (omega (arith, extended_entries c.args.log_h c.args.added_bits c.requires.rows.height c.in_ok-grown.ensures.rows.height wide))
     c.in_err-evaluate_to_natural.ensures.room
@@ -52,9 +34,3 @@ returns-clause-values g c =
     (bit_reversal k (values_of field c.weigh_reversed_rows.new.mat)) (k + c.args.added_bits) s out
     c.in_ok-weigh_reversed_rows.ensures.rows
     (c.in_ok-grown.ensures.values field.ring.one out c.in_ok-evaluate_to_natural.ensures.values)
-
-pub returns-clause-cost : goal.returns-clause-cost
-returns-clause-cost g c =
-    let n = c.args.log_h + c.args.added_bits in
-    let wide = c.in_ok-grown.ensures.width ∙ c.weigh_reversed_rows.ensures.same.shape.1 in
-    omega (arith, c.weigh_reversed_rows.ensures.cost, c.evaluate_to_natural.ensures.cost, ap (λ w. w * (n * 2 ^ n / 2)) wide)

@@ -2,7 +2,6 @@ use Rattle.std.proofs.Common.{◌≡◌, ℕ, ◌+◌, ◌*◌, ◌-◌, ◌^◌
 use Rattle.p3_matrix.specs.BitOrder.{bit_reversal}
 use Rattle.p3_matrix.specs.Cosets.{IsValues, values_of}
 use Rattle.p3_matrix.specs.RowMajor.{height}
-use Rattle.p3_dft.specs.Stored.{HasTwoPowerRows}
 use Rattle.p3_dft.proofs.Calls.Shapes.{both_logs_fit, output_log_small, output_size}
 use Rattle.p3_dft.proofs.NetworkG.{none_spread, one_spread, places_there, values_still}
 use Rattle.p3_dft.proofs.radix_2_bowers.spread_over_zeros.Goals as goal
@@ -18,19 +17,16 @@ overflow_shl-row g c = let small = output_log_small _ _ _ _ c.requires.fits in o
 
 pub loop-row-init : goal.loop-row-init
 loop-row-init g c = record {
-  some = omega (arith, c.height-height.ensures.height, c.requires.rows.height, pow_pos c.args.log_h);
-  spread = rw c.height-height.ensures.height (none_spread _ _ c.args.mat _ c.requires.rows.whole c.in_ok-mat.ensures.padded);
+  some = omega (arith, c.height-height.ensures.height, c.requires.height, pow_pos c.args.log_h);
+  spread = rw c.height-height.ensures.height (none_spread _ _ c.args.mat _ c.height-height.ensures.whole c.in_ok-mat.ensures.padded);
 }
 
-pub exchange_rows-requires-clause-i_in_bounds : goal.exchange_rows-requires-clause-i_in_bounds
-exchange_rows-requires-clause-i_in_bounds g c =
-    (places_there g.F.Valued.zero c.args.added_bits c.args.mat (c.loop-row.row - 1) c.loop-row.mat c.requires.fits
-    (omega (arith, c.height-height.ensures.height, c.loop-row.auto.row, c.loop-row.invariant.some)) c.loop-row.invariant.spread.tall).0
-
-pub exchange_rows-requires-clause-j_in_bounds : goal.exchange_rows-requires-clause-j_in_bounds
-exchange_rows-requires-clause-j_in_bounds g c =
-    (places_there g.F.Valued.zero c.args.added_bits c.args.mat (c.loop-row.row - 1) c.loop-row.mat c.requires.fits
-    (omega (arith, c.height-height.ensures.height, c.loop-row.auto.row, c.loop-row.invariant.some)) c.loop-row.invariant.spread.tall).1
+pub exchange_rows-requires : goal.exchange_rows-requires
+exchange_rows-requires g c =
+    let there =
+    places_there g.F.Valued.zero c.args.added_bits c.args.mat (c.loop-row.row - 1) c.loop-row.mat c.requires.fits
+    (omega (arith, c.height-height.ensures.height, c.loop-row.auto.row, c.loop-row.invariant.some)) c.loop-row.invariant.spread.tall in
+    record { i_in_bounds = there.0; j_in_bounds = there.1 }
 
 pub loop-row-preserved : goal.loop-row-preserved
 loop-row-preserved g c =
@@ -53,20 +49,24 @@ returns-clause-rows g c =
     let a = c.args.added_bits in
     record {
       whole = c.loop-row.invariant.spread.whole;
-      height = c.loop-row.invariant.spread.tall ∙ ap (λ h. h * 2 ^ a) c.requires.rows.height ∙ sym (pow-add 2 k a);
-      fits_u64 = (both_logs_fit _ _ c.requires.fits c.requires.rows.height refl).3;
+      height = c.loop-row.invariant.spread.tall ∙ ap (λ h. h * 2 ^ a) c.requires.height ∙ sym (pow-add 2 k a);
+      fits_u64 = (both_logs_fit _ _ c.requires.fits c.requires.height refl).3;
     }
 
 pub returns-clause-values : goal.returns-clause-values
 returns-clause-values g c s v given =
     values_still g.F.Valued (λ n. g.F.Valued.value (g.F.TwoAdicField.generator n)) c.args.log_h s v
-    (ap g.F.Valued.value (sym g.met.F.Field.same_zero) ∙ g.met.F.Field.zero_law) c.requires.rows.height
+    (ap g.F.Valued.value (sym g.met.F.Field.same_zero) ∙ g.met.F.Field.zero_law) c.requires.height
     (omega (arith, c.loop-row-test.false, c.loop-row.invariant.some)) c.loop-row.invariant.spread given
 
 pub returns-then-added_bits-eq0-clause-rows : goal.returns-then-added_bits-eq0-clause-rows
 returns-then-added_bits-eq0-clause-rows g c =
     let same : c.args.log_h ≡ c.args.log_h + c.args.added_bits = omega (arith, c.if-added_bits-eq0.true) in
-    subst (HasTwoPowerRows c.args.mat) same c.requires.rows
+    record {
+      whole = c.height-height.ensures.whole;
+      height = c.requires.height ∙ ap (λ k. 2 ^ k) same;
+      fits_u64 = (both_logs_fit _ _ c.requires.fits c.requires.height refl).3;
+    }
 
 pub returns-then-added_bits-eq0-clause-values : goal.returns-then-added_bits-eq0-clause-values
 returns-then-added_bits-eq0-clause-values g c s v given =

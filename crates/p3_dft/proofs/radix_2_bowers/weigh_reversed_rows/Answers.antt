@@ -4,11 +4,8 @@ use Rattle.p3_networks.proofs.Layers.Counts.{turn_counted}
 use Rattle.p3_matrix.specs.RowMajor.{height}
 use Rattle.p3_matrix.proofs.Rooms.{room_of}
 use Rattle.p3_dft.proofs.Calls.Shapes.{powers_fit}
-use Rattle.p3_dft.proofs.NetworkG.{all_weighed, none_weighed, one_weighed, scaled_reversed}
+use Rattle.p3_dft.proofs.NetworkG.{none_weighed, one_weighed, weighed_alike, weighed_by_table}
 use Rattle.p3_dft.proofs.radix_2_bowers.weigh_reversed_rows.Goals as goal
-
-pub loop-i-init : goal.loop-i-init
-loop-i-init g c = record { rows = none_weighed _ _ _; count = omega arith }
 
 pub row_mut-requires : goal.row_mut-requires
 row_mut-requires g c =
@@ -31,31 +28,20 @@ loop-i-preserved g c =
           c.loop-i.invariant.count c.scale_slice_in_place.ensures.count;
     }
 
-pub returns-clause-same : goal.returns-clause-same
-returns-clause-same g c =
-    (all_weighed g.F.Valued c.args.mat.now c.loop-i.mat c.as_slice-weights.result.now _ c.loop-i.i c.args.log_h _ _ c.requires.rows.whole
-    c.requires.rows.height c.as_slice-weights.ensures.value c.in_ok-powers.ensures.powers (omega (arith, c.loop-i-test.false))
-    c.loop-i.invariant.rows).0
-
-pub returns-clause-rows : goal.returns-clause-rows
-returns-clause-rows g c =
-    (all_weighed g.F.Valued c.args.mat.now c.loop-i.mat c.as_slice-weights.result.now _ c.loop-i.i c.args.log_h _ _ c.requires.rows.whole
-    c.requires.rows.height c.as_slice-weights.ensures.value c.in_ok-powers.ensures.powers (omega (arith, c.loop-i-test.false))
-    c.loop-i.invariant.rows).1
-
 pub returns-in_err-powers-clause-room : goal.returns-in_err-powers-clause-room
 returns-in_err-powers-clause-room g c =
     room_of _ c.from_residual.result _ _ _ c.from_residual.ensures
     (powers_fit c.args.log_h c.requires.rows.whole.width c.requires.rows.height) c.in_err-powers.ensures.room
 
-pub returns-then-eq-clause-same : goal.returns-then-eq-clause-same
-returns-then-eq-clause-same g c =
-    (scaled_reversed g.F.Valued c.args.mat.now c.scale.new.self c.args.log_h (g.F.Valued.value c.args.scale) _ c.requires.rows.whole
-    refl c.scale.ensures.width c.scale.ensures.values c.requires.rows.height).0
+pub returns-clause-rows : goal.returns-clause-rows
+returns-clause-rows g c =
+    weighed_by_table g.F.Valued c.args.mat.now c.loop-i.mat c.as_slice-weights.result.now _ c.loop-i.i c.args.log_h _ _
+    c.requires.rows.height c.as_slice-weights.ensures.value c.in_ok-powers.ensures.powers (omega (arith, c.loop-i-test.false))
+    c.loop-i.invariant.rows
 
 pub returns-then-eq-clause-rows : goal.returns-then-eq-clause-rows
 returns-then-eq-clause-rows g c =
-    let one =
-    (g.met.F.Field.eq_law c.args.shift c.ONE.result).0 (search rules) ∙ ap g.F.Valued.value c.ONE.ensures ∙ g.met.F.Field.one_law in
-    (scaled_reversed g.F.Valued c.args.mat.now c.scale.new.self c.args.log_h (g.F.Valued.value c.args.scale)
-    (g.F.Valued.value c.args.shift) c.requires.rows.whole one c.scale.ensures.width c.scale.ensures.values c.requires.rows.height).1
+    weighed_alike g.F.Valued c.args.mat.now c.scale.new.self c.args.log_h (g.F.Valued.value c.args.scale)
+    (g.F.Valued.value c.args.shift) c.requires.rows.whole c.requires.rows.height
+    ((g.met.F.Field.eq_law c.args.shift c.ONE.result).0 (search rules) ∙ ap g.F.Valued.value c.ONE.ensures ∙ g.met.F.Field.one_law)
+    c.scale.ensures.width c.scale.ensures.values

@@ -11,22 +11,9 @@ use Rattle.p3_dft.proofs.Calls.Stored.{rows_still}
 use Rattle.p3_dft.proofs.NetworkG.{extension_by_scale, fits_lde_still}
 use Rattle.p3_dft.proofs.radix_2_bowers.Radix2BowersTwoAdicSubgroupDft.coset_lde_batch.Goals as goal
 
-pub log_height-log_h-requires : goal.log_height-log_h-requires
-log_height-log_h-requires g c = rw c.into_row_major_matrix-mat.ensures (input_fits _ _ _ _ c.requires.fits)
-
 pub overflow_add-log_h : goal.overflow_add-log_h
 overflow_add-log_h g c =
     omega (arith, (both_logs_fit _ _ c.requires.fits c.log_height-log_h.ensures.power (ap height c.into_row_major_matrix-mat.ensures)).3)
-
-pub extend_to_natural-requires-clause-rows : goal.extend_to_natural-requires-clause-rows
-extend_to_natural-requires-clause-rows g c =
-    rows_still c.into_row_major_matrix-mat.result c.interpolate_unscaled_to_reversed.new.mat _ c.log_height-log_h.ensures.rows
-    c.interpolate_unscaled_to_reversed.ensures.same
-
-pub extend_to_natural-requires-clause-fits : goal.extend_to_natural-requires-clause-fits
-extend_to_natural-requires-clause-fits g c =
-    fits_lde_still c.interpolate_unscaled_to_reversed.new.mat c.into_row_major_matrix-mat.ensures c.args.added_bits
-    c.interpolate_unscaled_to_reversed.ensures.same.shape c.requires.fits
 
 pub returns-then-log_h-added_bits-eq0-clause-values : goal.returns-then-log_h-added_bits-eq0-clause-values
 returns-then-log_h-added_bits-eq0-clause-values g c =

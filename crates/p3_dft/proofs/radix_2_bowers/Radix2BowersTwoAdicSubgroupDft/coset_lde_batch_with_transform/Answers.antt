@@ -9,9 +9,6 @@ use Rattle.p3_dft.proofs.Calls.Stored.{whole_still}
 use Rattle.p3_dft.proofs.NetworkG.{changed_shape, extension_of_changed, fits_lde_still, shape_still}
 use Rattle.p3_dft.proofs.radix_2_bowers.Radix2BowersTwoAdicSubgroupDft.coset_lde_batch_with_transform.Goals as goal
 
-pub log_height-log_h-requires : goal.log_height-log_h-requires
-log_height-log_h-requires g c = rw c.into_row_major_matrix-mat.ensures (input_fits _ _ _ _ c.requires.fits)
-
 pub overflow_add-log_h : goal.overflow_add-log_h
 overflow_add-log_h g c =
     omega (arith, (both_logs_fit _ _ c.requires.fits c.log_height-log_h.ensures.power (ap height c.into_row_major_matrix-mat.ensures)).3)

@@ -4,14 +4,6 @@ use Rattle.p3_dft.proofs.Calls.CountedCalls.{after_dft}
 use Rattle.p3_dft.proofs.NetworkG.{interpolation_by_reversal}
 use Rattle.p3_dft.proofs.radix_2_bowers.Radix2BowersTwoAdicSubgroupDft.idft_batch.Goals as goal
 
-pub reverse_rows-requires : goal.reverse_rows-requires
-reverse_rows-requires g c = record {
-  power = (
-        c.log_height-log_h.result,
-        c.interpolate_to_reversed.ensures.same.shape.0 ∙ c.log_height-log_h.ensures.power,
-      );
-}
-
 pub returns-then-height-eq1-clause-coefficients : goal.returns-then-height-eq1-clause-coefficients
 returns-then-height-eq1-clause-coefficients g c =
     rw (← c.into_row_major_matrix-mat.ensures) (interpolation_of_row g.F.Valued g.F.TwoAdicField.generator
