@@ -1,5 +1,6 @@
--- What the engine of network G does beside it: tables of powers, rows in bit reversed order that are weighed and spread, and what calls make of these.
-use Rattle.std.proofs.Common.{◌≡◌, ℕ, zero, suc, ◌+◌, ◌*◌, ◌-◌, ◌%◌, ◌^◌, ◌<◌, ◌≤◌, ◌++◌, List, length, get_or, take, refl, sym, ap, ap₂, ◌∙◌}
+-- What the engine of network G does besides the network: tables of powers, rows in bit reversed order that are weighed and spread, and the calls that it
+-- makes of these.
+use Rattle.std.proofs.Common.{◌≡◌, ℕ, zero, suc, ◌+◌, ◌*◌, ◌-◌, ◌%◌, ◌^◌, ◌<◌, ◌≤◌, List, length, get_or, take, refl, sym, ap, ap₂, ◌∙◌}
 use Rattle.std.proofs.Common.{◌/◌, ◌⊎◌, arith, drop, inl, inr, le-add_right, map, pow_pos, rules, subst}
 use Rattle.std.proofs.lemmas.List.{get_or_past, length-map, places}
 use Rattle.std.proofs.lemmas.Nat.{mul-add-lt}
@@ -16,7 +17,7 @@ use Rattle.p3_matrix.specs.Writes.{with_elements, with_row}
 use Rattle.p3_matrix.proofs.BitReversal.{reversed_back, rev-lt, rev-rev}
 use Rattle.p3_matrix.proofs.Matrices.{mapped_same, same_sym}
 use Rattle.p3_matrix.proofs.RowMajor.{row_within, whole_kept}
-use Rattle.p3_matrix.proofs.Rows.Overwritten.{RowsDone, part_at, part_size, rows-next, rows-none, value_at}
+use Rattle.p3_matrix.proofs.Rows.Overwritten.{RowsDone, part_at, part_size, rows-next, value_at}
 use Rattle.p3_matrix.proofs.Rows.Padding.{padded_above, padded_below, padded_high, padded_whole}
 use Rattle.p3_matrix.proofs.TwoPowers.{log_same}
 use Rattle.p3_matrix.proofs.Polynomials.Cosets.{coefficients_same}
@@ -50,9 +51,9 @@ module _ {T : Type 0} {m n : RowMajor T} (x : RowMajor T) (same : m ≡ n) where
   pub fits_lde_still : {most : ℕ} (a : ℕ) → HasShapeOf x m → FitsLde most (height n) n.width a → FitsLde most (height x) x.width a
   fits_lde_still a shape fits = let still = shape_still shape in fits_lde_as _ _ _ a _ _ fits still.0 still.1
 
-  -- and what a transform answers of it has that shape
-  pub changed_shape : {may_answer : RowMajor T → RowMajor T → Type 0} (changed : RowMajor T) → IsRowMajor m → HasEntriesOf x m
-      → KeepsShape n may_answer → may_answer x changed → HasShapeOf changed m
+  -- and what a transform makes of it has that shape
+  pub changed_shape : {may_make : RowMajor T → RowMajor T → Type 0} (changed : RowMajor T) → IsRowMajor m → HasEntriesOf x m
+      → KeepsShape n may_make → may_make x changed → HasShapeOf changed m
   changed_shape changed whole entries keeps called =
       let kept = keeps x changed (whole_still m x whole entries) (shape_still entries.shape) called in
       (kept.0 ∙ sym (ap height same), kept.1 ∙ sym (ap (λ (y : RowMajor T). y.width) same))
@@ -63,12 +64,16 @@ two_places zero some = absurd (some refl)
 two_places (suc a) some = omega (arith, two-pow-succ a, pow_pos a)
 
 module _ {T : Type 0} (z : T) (a : ℕ) (m : RowMajor T) where
+  -- column j of now, where its rows from n on are spread
+  abbrev pub IsColumnSpread : ℕ → RowMajor T → ℕ → Type 0
+  IsColumnSpread n now j = SpreadFrom z (2 ^ a) (height m) n (λ i. (matrix z m).entry i j) (λ i. (matrix z now).entry i j)
+
   -- each row i of m from n on is in the place i * 2 ^ a of now, the rows before are where they were, and all others are z
   pub record RowsSpread (n : ℕ) (now : RowMajor T) : Type 0 where
     pub whole : IsRowMajor now
     pub tall : height now ≡ height m * 2 ^ a
     pub wide : now.width ≡ m.width
-    pub columns : (j : ℕ) → j < m.width → SpreadFrom z (2 ^ a) (height m) n (λ i. (matrix z m).entry i j) (λ i. (matrix z now).entry i j)
+    pub columns : (j : ℕ) → j < m.width → IsColumnSpread n now j
 
   -- none is spread where rows of z are below all of m
   pub none_spread : (now : RowMajor T) → IsRowMajor m → now ≡ with_zeros z m a → RowsSpread (height m) now
@@ -108,8 +113,7 @@ module _ {T : Type 0} (z : T) (a : ℕ) (m : RowMajor T) where
         spread_exchanged z (2 ^ a) (height m) (n - 1) (λ i. (matrix z m).entry i j) (matrix z now) (matrix z next) j (two_places a some) (omega arith)
         (omega arith) spread.tall (omega (arith, inside, spread.wide))
         (subst (λ (p : ℕ). Same (matrix z next) (row_exchange (n - 1) p (matrix z now))) place_is same)
-        (subst (λ (p : ℕ). SpreadFrom z (2 ^ a) (height m) p (λ i. (matrix z m).entry i j) (λ i. (matrix z now).entry i j)) next_is
-        (spread.columns j inside));
+        (subst (λ (p : ℕ). IsColumnSpread p now j) next_is (spread.columns j inside));
   }
 
 module _ {F : Type 0} (f : FieldMembers F) (g : ℕ → f.Element) where
@@ -119,10 +123,8 @@ module _ {F : Type 0} (f : FieldMembers F) (g : ℕ → f.Element) where
       → IsValues f.ring g (bit_reversal (k + a) (values_of f now)) (k + a) s v
       → IsValues f.ring g (bit_reversal k (values_of f m)) (k + a) s v
   values_still {a} {n} {m} {now} k s v none high all spread given =
-      let column : (j : ℕ) → j < m.width → SpreadFrom f.zero (2 ^ a) (height m) 1 (λ i. (matrix f.zero m).entry i j) (λ i. (matrix f.zero now).entry i j)
-      = λ j inside.
-      subst (λ (p : ℕ). SpreadFrom f.zero (2 ^ a) (height m) p (λ i. (matrix f.zero m).entry i j) (λ i. (matrix f.zero now).entry i j)) all
-      (spread.columns j inside) in
+      let column : (j : ℕ) → j < m.width → IsColumnSpread f.zero a m 1 now j = λ j inside.
+      subst (λ (p : ℕ). IsColumnSpread f.zero a m p now j) all (spread.columns j inside) in
       values_of_spread f.ring g k a s (values_of f m) (values_of f now) v high spread.tall spread.wide
       (λ i j below inside. ap f.value (spread_rows f.zero (2 ^ a) (height m) _ _ (column j inside) i below))
       (λ i r j below some less inside.
@@ -157,6 +159,7 @@ module _ {F : Type 0} (f : FieldMembers F) where
   }
 
   module _ (weight : ℕ → f.Element) (m : RowMajor F) where
+    -- y is the entry of m in row p and column j, times the weight of that row
     abbrev IsWeighed : ℕ → ℕ → F → Type 0
     IsWeighed p j y = f.value y ≡ f.ring.mul (f.value (get_or m.values (p * m.width + j) f.zero)) (weight p)
 
@@ -165,10 +168,7 @@ module _ {F : Type 0} (f : FieldMembers F) where
       pub wide : now.width ≡ m.width
       pub rows : RowsDone f.zero m.width IsWeighed m.values i now.values
 
-    pub none_weighed : RowsWeighed 0 m
-    none_weighed = record { wide = refl; rows = rows-none f.zero _ _ _ }
-
-    -- one row more, which was lent as a part of its own
+    -- one row more, which a program had as a slice of its own
     pub one_weighed : (i : ℕ) (now : RowMajor F) (part ys : List F) (factor : f.Element) → IsRowMajor m → i < height m
         → part ≡ row now i → length ys ≡ length part → map f.value ys ≡ map (λ x. f.ring.mul x factor) (map f.value part)
         → factor ≡ weight i → RowsWeighed i now → RowsWeighed (i + 1) (with_row now i ys) × (length part ≡ m.width)
@@ -289,17 +289,17 @@ module _ {F : Type 0} (f : FieldMembers F) (generator : ℕ → F) {m n : RowMaj
       (extension_of_coefficients f generator m out d a k s high
       (are d (quotient_of_products f.ring (2 ^ k) scale c d undone (record { height = refl; width = refl; alike = λ i j p q. refl }))) values)
 
-  -- an extension of what a transform answered that was given the coefficients, times one
-  pub extension_of_changed : (may_answer : RowMajor F → Layout → RowMajor F → Type 0) (told changed out : RowMajor F) (one s : f.Element) (a : ℕ)
+  -- an extension of what a transform made of the coefficients, each times one
+  pub extension_of_changed : (may_make : RowMajor F → Layout → RowMajor F → Type 0) (passed changed out : RowMajor F) (one s : f.Element) (a : ℕ)
       → one ≡ f.ring.one
-      → AreCoefficients f.ring (λ i. f.value (generator i)) (values_of f m) k f.ring.one (bit_reversal k (values_of f told))
-      → IsRowMajor m → HasEntriesOf told m → IsRowMajor changed → may_answer told BitReversed changed → HasShapeOf changed m
+      → AreCoefficients f.ring (λ i. f.value (generator i)) (values_of f m) k f.ring.one (bit_reversal k (values_of f passed))
+      → IsRowMajor m → HasEntriesOf passed m → IsRowMajor changed → may_make passed BitReversed changed → HasShapeOf changed m
       → IsValues f.ring (λ i. f.value (generator i)) (image (λ x. f.ring.mul x one) (bit_reversal k (values_of f changed))) (k + a) s (values_of f out)
-      → AreTransformedValues f generator may_answer BitReversed n a s (values_of f out)
-  extension_of_changed may_answer told changed out one s a is are whole entries changed_is called shape values =
+      → AreTransformedValues f generator may_make BitReversed n a s (values_of f out)
+  extension_of_changed may_make passed changed out one s a is are whole entries changed_is called shape values =
       let c = bit_reversal k (values_of f changed) in
-      subst (λ (x : RowMajor F). AreTransformedValues f generator may_answer BitReversed x a s (values_of f out)) given
-      (values_of_answered f generator may_answer m told changed a k s (values_of f out) high are (whole_still m told whole entries) changed_is
+      subst (λ (x : RowMajor F). AreTransformedValues f generator may_make BitReversed x a s (values_of f out)) given
+      (values_of_answered f generator may_make m passed changed a k s (values_of f out) high are (whole_still m passed whole entries) changed_is
       called shape.0
       (coefficients_same f.ring (λ i. f.value (generator i)) (image (λ x. f.ring.mul x one) c) c (k + a) s (values_of f out)
       (record {

@@ -181,7 +181,14 @@ impl<F: TwoAdicField> TwoAdicSubgroupDft<F> for Radix2Bowers {
         let changed = transform(mat, Layout::BitReversed);
         // Tells the prover that the rows are whole.
         let _same_width = changed.width();
-        extend_to_natural(changed, log_h, added_bits, F::ONE, shift, &mut self.products)
+        extend_to_natural(
+            changed,
+            log_h,
+            added_bits,
+            F::ONE,
+            shift,
+            &mut self.products,
+        )
     }
 
     /// As the trait says: one product an entry divides by the height and multiplies by the power of the
@@ -211,7 +218,8 @@ impl<F: TwoAdicField> TwoAdicSubgroupDft<F> for Radix2Bowers {
         extend_to_natural(mat, log_h, added_bits, scale, shift, &mut self.products)
     }
 
-    /// `coset_lde_batch` with the shift one, whose powers need no memory; its clauses are those of that call.
+    /// `coset_lde_batch` with the shift one, for which no table of its powers is made; its clauses are those of that
+    /// call.
     fn lde_batch<N: IntoRowMajorMatrix<F>>(
         &mut self,
         mat: N,

@@ -1,4 +1,4 @@
-use Rattle.std.proofs.Common.{◌≡◌, ℕ, ◌^◌, length, refl, sym, ap, ◌∙◌}
+use Rattle.std.proofs.Common.{ℕ, ◌^◌, length, refl, sym, ap, ◌∙◌}
 use Rattle.p3_field.proofs.Rings
 use Rattle.p3_field.proofs.Roots.{inverse_root, inverse_undoes}
 use Rattle.p3_matrix.specs.Cosets.{values_of}

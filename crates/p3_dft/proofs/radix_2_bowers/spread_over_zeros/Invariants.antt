@@ -1,4 +1,4 @@
-use Rattle.std.proofs.Common.{ℕ, ◌≤◌}
+use Rattle.std.proofs.Common.{◌≤◌}
 use Rattle.p3_dft.proofs.NetworkG.{RowsSpread}
 use Rattle.p3_dft.proofs.radix_2_bowers.spread_over_zeros.Given as goal
 

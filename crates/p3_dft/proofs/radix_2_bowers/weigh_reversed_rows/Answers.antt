@@ -1,10 +1,10 @@
-use Rattle.std.proofs.Common.{◌≡◌, ◌/◌, length, refl, sym, ap, ap₂, ◌∙◌, arith, rules, lt_of_lt_of_le}
+use Rattle.std.proofs.Common.{◌≡◌, ◌/◌, length, refl, ap, ap₂, ◌∙◌, arith, rules}
 use Rattle.std.proofs.lemmas.List.{get_or_read_under}
 use Rattle.p3_networks.proofs.Layers.Counts.{turn_counted}
 use Rattle.p3_matrix.specs.RowMajor.{height}
 use Rattle.p3_matrix.proofs.Rooms.{room_of}
 use Rattle.p3_dft.proofs.Calls.Shapes.{powers_fit}
-use Rattle.p3_dft.proofs.NetworkG.{none_weighed, one_weighed, weighed_alike, weighed_by_table}
+use Rattle.p3_dft.proofs.NetworkG.{one_weighed, weighed_alike, weighed_by_table}
 use Rattle.p3_dft.proofs.radix_2_bowers.weigh_reversed_rows.Goals as goal
 
 pub row_mut-requires : goal.row_mut-requires

@@ -6,9 +6,8 @@ use Rattle.p3_matrix.specs.RowMajor.{height}
 use Rattle.p3_matrix.proofs.TwoPowers.{more_points}
 use Rattle.p3_dft.proofs.BitReversed.Coefficients.{extension_of_row}
 use Rattle.p3_dft.proofs.Calls.CountedCalls.{after_lde, inverse_refused}
-use Rattle.p3_dft.proofs.Calls.Shapes.{both_logs_fit, both_none, input_fits}
-use Rattle.p3_dft.proofs.Calls.Stored.{rows_still}
-use Rattle.p3_dft.proofs.NetworkG.{extension_by_scale, fits_lde_still}
+use Rattle.p3_dft.proofs.Calls.Shapes.{both_logs_fit, both_none}
+use Rattle.p3_dft.proofs.NetworkG.{extension_by_scale}
 use Rattle.p3_dft.proofs.radix_2_bowers.Radix2BowersTwoAdicSubgroupDft.coset_lde_batch.Goals as goal
 
 pub overflow_add-log_h : goal.overflow_add-log_h
@@ -32,27 +31,28 @@ returns-in_err-interpolate_unscaled_to_reversed-clause-engine g c =
     inverse_refused c.into_row_major_matrix-mat.ensures c.self.view_is _ c.args.added_bits _ c.from_residual.result
     c.from_residual.ensures c.in_err-interpolate_unscaled_to_reversed.ensures.refused c.in_err-interpolate_unscaled_to_reversed.ensures.room
 
-pub returns-clause-values : goal.returns-clause-values
-returns-clause-values g c =
+pub returns : goal.returns
+returns g c =
     let field = g.F.Valued in
     let k = c.log_height-log_h.result in
     let scale = field.value c.div_2exp_u64-scale.result in
     let undone : field.ring.mul (count field.ring (2 ^ k)) scale ≡ field.ring.one =
     ap (λ x. field.ring.mul x scale) (count-power_of_two field.ring k) ∙ c.div_2exp_u64-scale.ensures
     ∙ ap field.value c.ONE.ensures ∙ g.met.F.Field.one_law in
-    IfOk-weaker c.extend_to_natural.result _ _ (λ out given. extension_by_scale field g.F.TwoAdicField.generator k
-    c.into_row_major_matrix-mat.ensures c.log_height-log_h.ensures.power out _ scale (field.value c.args.shift) c.args.added_bits undone
-    c.in_ok-interpolate_unscaled_to_reversed.ensures.coefficients given) c.extend_to_natural.ensures.values
-
-pub returns-clause-one_row : goal.returns-clause-one_row
-returns-clause-one_row g c =
-    λ one none. absurd (more_points _ _ _ c.log_height-log_h.ensures.power c.if-log_h-added_bits-eq0.false
-    (ap height c.into_row_major_matrix-mat.ensures ∙ one) none)
-
-pub returns-clause-engine : goal.returns-clause-engine
-returns-clause-engine g c =
-    after_lde c.into_row_major_matrix-mat.ensures c.self.view_is _ c.log_height-log_h.ensures.power c.interpolate_unscaled_to_reversed.new.mat
-    c.interpolate_unscaled_to_reversed.new.products _ c.args.added_bits c.extend_to_natural.result
-    c.interpolate_unscaled_to_reversed.ensures.same.shape c.interpolate_unscaled_to_reversed.ensures.grows
-    (le_trans c.interpolate_unscaled_to_reversed.ensures.cost (le-add_right _ _)) c.extend_to_natural.ensures.grows
-    c.extend_to_natural.ensures.cost c.extend_to_natural.ensures.room
+    record {
+      values =
+          IfOk-weaker c.extend_to_natural.result _ _ (λ out given. extension_by_scale field g.F.TwoAdicField.generator k
+          c.into_row_major_matrix-mat.ensures c.log_height-log_h.ensures.power out _ scale (field.value c.args.shift)
+          c.args.added_bits undone c.in_ok-interpolate_unscaled_to_reversed.ensures.coefficients given)
+          c.extend_to_natural.ensures.values;
+      one_row =
+          λ one none. absurd (more_points _ _ _ c.log_height-log_h.ensures.power c.if-log_h-added_bits-eq0.false
+          (ap height c.into_row_major_matrix-mat.ensures ∙ one) none);
+      engine =
+          after_lde c.into_row_major_matrix-mat.ensures c.self.view_is _ c.log_height-log_h.ensures.power
+          c.interpolate_unscaled_to_reversed.new.mat c.interpolate_unscaled_to_reversed.new.products _ c.args.added_bits
+          c.extend_to_natural.result c.interpolate_unscaled_to_reversed.ensures.same.shape
+          c.interpolate_unscaled_to_reversed.ensures.grows
+          (le_trans c.interpolate_unscaled_to_reversed.ensures.cost (le-add_right _ _))
+          c.extend_to_natural.ensures.grows c.extend_to_natural.ensures.cost c.extend_to_natural.ensures.room;
+    }

@@ -4,7 +4,7 @@ use Rattle.p3_matrix.specs.RowMajor.{height}
 use Rattle.p3_matrix.proofs.TwoPowers.{more_points}
 use Rattle.p3_dft.proofs.BitReversed.Coefficients.{extension_of_told_row}
 use Rattle.p3_dft.proofs.Calls.CountedCalls.{after_lde, inverse_refused}
-use Rattle.p3_dft.proofs.Calls.Shapes.{both_logs_fit, both_none, input_fits}
+use Rattle.p3_dft.proofs.Calls.Shapes.{both_logs_fit, both_none}
 use Rattle.p3_dft.proofs.Calls.Stored.{whole_still}
 use Rattle.p3_dft.proofs.NetworkG.{changed_shape, extension_of_changed, fits_lde_still, shape_still}
 use Rattle.p3_dft.proofs.radix_2_bowers.Radix2BowersTwoAdicSubgroupDft.coset_lde_batch_with_transform.Goals as goal
@@ -60,30 +60,27 @@ returns-in_err-interpolate_to_reversed-clause-engine g c =
     inverse_refused c.into_row_major_matrix-mat.ensures c.self.view_is _ c.args.added_bits _ c.from_residual.result
     c.from_residual.ensures c.in_err-interpolate_to_reversed.ensures.refused c.in_err-interpolate_to_reversed.ensures.room
 
-pub returns-clause-values : goal.returns-clause-values
-returns-clause-values g c =
+pub returns : goal.returns
+returns g c =
     let field = g.F.Valued in
     let whole = c.log_height-log_h.ensures.rows.whole in
     let shape =
     changed_shape c.interpolate_to_reversed.new.mat c.into_row_major_matrix-mat.ensures c.transform-changed.result whole
     c.interpolate_to_reversed.ensures.same c.requires.shape c.transform-changed.ensures in
-    IfOk-weaker c.extend_to_natural.result _ _ (λ out given. extension_of_changed field g.F.TwoAdicField.generator
-    c.log_height-log_h.result c.into_row_major_matrix-mat.ensures c.log_height-log_h.ensures.power _ c.interpolate_to_reversed.new.mat
-    c.transform-changed.result out (field.value c.ONE.result) (field.value c.args.shift) c.args.added_bits
-    (ap field.value c.ONE.ensures ∙ g.met.F.Field.one_law) c.in_ok-interpolate_to_reversed.ensures.coefficients whole
-    c.interpolate_to_reversed.ensures.same c.width-same_width.ensures.whole c.transform-changed.ensures shape given)
-    c.extend_to_natural.ensures.values
-
-pub returns-clause-one_row : goal.returns-clause-one_row
-returns-clause-one_row g c =
-    λ one none. absurd (more_points _ _ _ c.log_height-log_h.ensures.power c.if-log_h-added_bits-eq0.false
-    (ap height c.into_row_major_matrix-mat.ensures ∙ one) none)
-
-pub returns-clause-engine : goal.returns-clause-engine
-returns-clause-engine g c =
-    after_lde c.into_row_major_matrix-mat.ensures c.self.view_is _ c.log_height-log_h.ensures.power c.transform-changed.result
-    c.interpolate_to_reversed.new.products _ c.args.added_bits c.extend_to_natural.result
-    (changed_shape c.interpolate_to_reversed.new.mat c.into_row_major_matrix-mat.ensures c.transform-changed.result
-    c.log_height-log_h.ensures.rows.whole c.interpolate_to_reversed.ensures.same c.requires.shape c.transform-changed.ensures)
-    c.interpolate_to_reversed.ensures.grows c.interpolate_to_reversed.ensures.cost c.extend_to_natural.ensures.grows
-    c.extend_to_natural.ensures.cost c.extend_to_natural.ensures.room
+    record {
+      values =
+          IfOk-weaker c.extend_to_natural.result _ _ (λ out given. extension_of_changed field g.F.TwoAdicField.generator
+          c.log_height-log_h.result c.into_row_major_matrix-mat.ensures c.log_height-log_h.ensures.power _
+          c.interpolate_to_reversed.new.mat c.transform-changed.result out (field.value c.ONE.result)
+          (field.value c.args.shift) c.args.added_bits (ap field.value c.ONE.ensures ∙ g.met.F.Field.one_law)
+          c.in_ok-interpolate_to_reversed.ensures.coefficients whole c.interpolate_to_reversed.ensures.same
+          c.width-same_width.ensures.whole c.transform-changed.ensures shape given) c.extend_to_natural.ensures.values;
+      one_row =
+          λ one none. absurd (more_points _ _ _ c.log_height-log_h.ensures.power c.if-log_h-added_bits-eq0.false
+          (ap height c.into_row_major_matrix-mat.ensures ∙ one) none);
+      engine =
+          after_lde c.into_row_major_matrix-mat.ensures c.self.view_is _ c.log_height-log_h.ensures.power
+          c.transform-changed.result c.interpolate_to_reversed.new.products _ c.args.added_bits
+          c.extend_to_natural.result shape c.interpolate_to_reversed.ensures.grows c.interpolate_to_reversed.ensures.cost
+          c.extend_to_natural.ensures.grows c.extend_to_natural.ensures.cost c.extend_to_natural.ensures.room;
+    }

@@ -1,4 +1,4 @@
-use Rattle.std.proofs.Common.{refl, ap, ◌∙◌, sym, arith}
+use Rattle.std.proofs.Common.{refl, ◌∙◌, sym, arith}
 use Rattle.p3_dft.proofs.BitReversed.Coefficients.{interpolation_of_row}
 use Rattle.p3_dft.proofs.Calls.CountedCalls.{after_dft}
 use Rattle.p3_dft.proofs.NetworkG.{interpolation_by_reversal}
