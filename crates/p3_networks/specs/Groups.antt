@@ -42,6 +42,16 @@ pub record IsChunk (w top number twiddles n : ℕ) : Type 0 where
   pub enough : (number + 1) * 2 ^ top ≤ 2 * twiddles
   pub size : n ≡ 2 ^ top * w
 
+-- chunk `number` of 2 ^ to rows of w entries, on which the layers from `from` up to `to` are done in pieces of so many cells, has n entries;
+-- its rows have numbers of 64 bits, and its blocks have twiddles
+pub record IsGroupChunk (w from to cells number : ℕ) (has : ℕ → Type 0) (n : ℕ) : Type 0 where
+  pub width : 1 ≤ w
+  pub order : from ≤ to
+  pub fits_u64 : (number + 1) * 2 ^ to < 2 ^ 64
+  pub piece : 1 ≤ cells
+  pub size : n ≡ 2 ^ to * w
+  pub in_table : (b : ℕ) → 2 * b < (number + 1) * 2 ^ to → has b
+
 -- in their order, the layers from `from` up to `to` of such a chunk: near and far stand behind a butterfly of a twiddle, and block b has twiddle b
 abbrev pub DoesLayers : {F : Type 0} (f : FieldMembers F) → Order
     → (near far : f.Element → f.Element → f.Element → f.Element) → List F → (w top number from to : ℕ) → List F → List F

@@ -23,8 +23,7 @@ pub(crate) trait ChunkWork<F: TwoAdicField>: Drop {
     fn on_chunk(&self, number: usize, chunk: &mut [F], products: &mut Products)
         requires { accepts self.now number (length chunk.old) }
         ensures chunk { takes self.now number chunk.old chunk.new }
-        ensures grows { products.old ≤ products.new }
-        ensures cost { 2 * products.new ≤ 2 * products.old + cost self.now (length chunk.old) };
+        ensures cost { RisesAtMost (cost self.now (length chunk.old)) (2 * products.old) (2 * products.new) };
 }
 
 /// Does the work on each of `count` chunks of `size` entries, one after another.
@@ -41,8 +40,7 @@ pub(crate) fn on_each_chunk<F: TwoAdicField, W: ChunkWork<F>>(
     requires whole { length values.old ≡ count * size }
     requires accepts { (n : ℕ) → n < count → W.accepts work n size }
     ensures chunks { (n : ℕ) → n < count → W.takes work n (chunk_of size n values.old) (chunk_of size n values.new) }
-    ensures grows { products.old ≤ products.new }
-    ensures cost { 2 * products.new ≤ 2 * products.old + count * W.cost work size }
+    ensures cost { RisesAtMost (count * W.cost work size) (2 * products.old) (2 * products.new) }
 {
     for n in 0..count {
         let start = n * size;

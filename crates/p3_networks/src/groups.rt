@@ -5,9 +5,10 @@
 //! another, that stays in the cache from layer to layer; two layers go on quarters, one on halves.
 
 ghost use Rattle.std.specs.Prelude.{◌≡◌, ◌⊎◌, ℕ, ◌+◌, ◌-◌, ◌*◌, ◌/◌, ◌^◌, ◌<◌, ◌≤◌, List, length, get_or};
-ghost use Rattle.p3_networks.specs.Groups.{AreLayersInOrder, HoldsColumns, MeetInColumns, TakesCells, TakesColumns};
-ghost use Rattle.p3_networks.specs.Groups.{cells_of, group_end, group_of, layer_of};
-ghost use Rattle.p3_networks.specs.Layers.{HoldsCells, IsLayer};
+ghost use Rattle.p3_networks.specs.Counts.{RisesAtMost};
+ghost use Rattle.p3_networks.specs.Groups.{AreLayersInOrder, HoldsColumns, IsGroupChunk, MeetInColumns, TakesCells};
+ghost use Rattle.p3_networks.specs.Groups.{TakesColumns, cells_of, group_end, group_of, layer_of};
+ghost use Rattle.p3_networks.specs.Layers.{AreRows, HoldsCells, IsLayer};
 
 use crate::butterfly_layers::{Rule, meet_ranges};
 use crate::chunks::{ChunkWork, on_each_chunk};
@@ -127,19 +128,17 @@ pub(crate) fn layers_in_groups<F: TwoAdicField, R: Rule<F>>(
     piece: usize,
     products: &mut Products,
 )
-    requires width { 1 ≤ width }
+    requires rows { AreRows log_h width (length values.old) }
     requires below { log_rows ≤ log_h }
-    requires fits_u64 { log_h < 64 }
     requires piece { 1 ≤ piece }
-    requires size { length values.old ≡ 2 ^ log_h * width }
     requires in_table { (b : ℕ) → 2 * b < 2 ^ log_h → R.has rule b 0 }
     ensures cells { (cells : ℕ → ℕ → F.Element)
         → AreLayersInOrder order log_h width (λ b. R.near F.Element F.ring F.value rule b 0)
         (λ b. R.far F.Element F.ring F.value rule b 0) cells
         → HoldsCells F.value F.zero 0 (cells (cells_of order log_rows log_h 0)) values.old
         → HoldsCells F.value F.zero 0 (cells (cells_of order log_rows log_h (log_h - log_rows))) values.new }
-    ensures grows { products.old ≤ products.new }
-    ensures cost { 2 * products.new ≤ 2 * products.old + R.cost * ((log_h - log_rows) * length values.old) }
+    ensures cost { RisesAtMost (R.cost * ((log_h - log_rows) * length values.old))
+        (2 * products.old) (2 * products.new) }
 {
     let count = groups(log_h - log_rows);
     for done in 0..count {
@@ -176,12 +175,10 @@ fn group_on_chunks<F: TwoAdicField, R: Rule<F>>(
     log_h: usize,
     products: &mut Products,
 )
-    requires width { 1 ≤ layers.width }
+    requires rows { AreRows log_h layers.width (length values.old) }
     requires order { layers.from ≤ layers.to }
     requires below { layers.to ≤ log_h }
-    requires fits_u64 { log_h < 64 }
     requires piece { 1 ≤ layers.piece }
-    requires size { length values.old ≡ 2 ^ log_h * layers.width }
     requires in_table { (b : ℕ) → 2 * b < 2 ^ log_h → R.has layers.rule b 0 }
     ensures cells { let it = layers in
         (cells : ℕ → ℕ → F.Element)
@@ -189,9 +186,8 @@ fn group_on_chunks<F: TwoAdicField, R: Rule<F>>(
         (λ b. R.far F.Element F.ring F.value it.rule b 0) cells
         → HoldsCells F.value F.zero 0 (cells (cells_of it.order it.from it.to 0)) values.old
         → HoldsCells F.value F.zero 0 (cells (cells_of it.order it.from it.to (it.to - it.from))) values.new }
-    ensures grows { products.old ≤ products.new }
-    ensures cost { 2 * products.new
-        ≤ 2 * products.old + R.cost * ((layers.to - layers.from) * length values.old) }
+    ensures cost { RisesAtMost (R.cost * ((layers.to - layers.from) * length values.old))
+        (2 * products.old) (2 * products.new) }
 {
     let chunks = 1usize << (log_h - layers.to);
     let size = values.len() / chunks;
@@ -199,9 +195,7 @@ fn group_on_chunks<F: TwoAdicField, R: Rule<F>>(
 }
 
 impl<F: TwoAdicField, R: Rule<F>> ChunkWork<F> for GroupLayers<R> {
-    ghost accepts = { λ it n size. (1 ≤ it.width) × ((it.from ≤ it.to) × (((n + 1) * 2 ^ it.to < 2 ^ 64)
-        × ((1 ≤ it.piece) × ((size ≡ 2 ^ it.to * it.width)
-        × ((b : ℕ) → 2 * b < (n + 1) * 2 ^ it.to → R.has it.rule b 0))))) };
+    ghost accepts = { λ it n. IsGroupChunk it.width it.from it.to it.piece n (λ b. R.has it.rule b 0) };
 
     ghost takes = { λ it n. TakesCells F.value F.value F.zero it.order it.width it.to n
         (λ b. R.near F.Element F.ring F.value it.rule b 0) (λ b. R.far F.Element F.ring F.value it.rule b 0)
@@ -233,12 +227,10 @@ impl<R> GroupLayers<R> {
     )
     where
         R: Rule<F>,
-        requires order { self.now.from ≤ self.now.to }
-        requires fits_u64 { (number + 1) * 2 ^ self.now.to < 2 ^ 64 }
-        requires size { length chunk.old ≡ 2 ^ self.now.to * self.now.width }
+        requires group { let it = self.now in
+            IsGroupChunk it.width it.from it.to it.piece number (λ b. R.has it.rule b 0) (length chunk.old) }
         requires ordered { at ≤ end }
         requires inside { end ≤ 2 ^ self.now.from * self.now.width }
-        requires in_table { (b : ℕ) → 2 * b < (number + 1) * 2 ^ self.now.to → R.has self.now.rule b 0 }
         ensures cells { let it = self.now in
             let part = 2 ^ it.from * it.width in
             let rows = 2 ^ (it.to - it.from) in
@@ -250,9 +242,9 @@ impl<R> GroupLayers<R> {
             (cells (cells_of it.order it.from it.to 0)) chunk.old
             → TakesColumns F.value F.zero part rows (number * length chunk.old) at end
             (cells (cells_of it.order it.from it.to (it.to - it.from))) chunk.old chunk.new }
-        ensures grows { products.old ≤ products.new }
-        ensures cost { let it = self.now in 2 * products.new
-            ≤ 2 * products.old + R.cost * ((it.to - it.from) * (2 ^ (it.to - it.from) * (end - at))) }
+        ensures cost { let it = self.now in
+            RisesAtMost (R.cost * ((it.to - it.from) * (2 ^ (it.to - it.from) * (end - at))))
+            (2 * products.old) (2 * products.new) }
     {
         let part = (1usize << self.from) * self.width;
         for done in 0..self.to - self.from {
@@ -306,8 +298,7 @@ fn layer_of_columns<F: TwoAdicField, R: Rule<F>>(
         → HoldsColumns F.value F.zero meet.part (blocks * (2 * meet.half)) first meet.at meet.end before values.old
         → TakesColumns F.value F.zero meet.part (blocks * (2 * meet.half)) first meet.at meet.end after
         values.old values.new }
-    ensures grows { products.old ≤ products.new }
-    ensures cost { products.new ≤ products.old + R.cost * (blocks * (meet.half * (meet.end - meet.at))) }
+    ensures cost { RisesAtMost (R.cost * (blocks * (meet.half * (meet.end - meet.at)))) products.old products.new }
 {
     let size = 2 * (meet.half * meet.part);
     on_each_chunk(meet, values, size, blocks, products);

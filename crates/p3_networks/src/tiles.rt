@@ -767,15 +767,12 @@ fn spread_tiles<F: TwoAdicField>(
     log_h: usize,
     products: &mut Products,
 )
-    requires width { 1 ≤ width }
+    requires shape { AreRows log_h width (length values.old) }
     requires added { coefficients.added_bits ≤ log_rows }
     requires below { log_rows ≤ log_h }
-    requires fits_u64 { log_h < 64 }
-    requires size { length values.old ≡ 2 ^ log_h * width }
     requires rows { length coefficients.rows.now ≡ 2 ^ (log_h - coefficients.added_bits) * width }
     requires weights { length coefficients.weights.now ≡ 2 ^ (log_h - coefficients.added_bits) }
     requires first { F.value (get_or twiddles.now 0 F.zero) ≡ F.ring.one }
-    requires nonzero { 1 ≤ length twiddles.now }
     requires enough { 2 ^ log_h ≤ 2 * length twiddles.now }
     ensures cells { (cells : ℕ → ℕ → F.Element)
         → AreLayers log_h width (λ b. dif_near F.ring (F.value (get_or twiddles.now b F.zero)))
@@ -788,9 +785,8 @@ fn spread_tiles<F: TwoAdicField>(
         (F.ring.mul (F.value (get_or coefficients.entry.weights.now q F.zero))
         (power F.ring (F.value (get_or twiddles.now (q * (2 ^ coefficients.entry.added_bits / 2)) F.zero)) t)))
         → HoldsCells F.value F.zero 0 (cells log_rows) values.new }
-    ensures grows { products.old ≤ products.new }
-    ensures cost { 2 * products.new
-        ≤ 2 * products.old + (log_rows - coefficients.entry.added_bits + 2) * length values.old }
+    ensures cost { RisesAtMost ((log_rows - coefficients.entry.added_bits + 2) * length values.old)
+        (2 * products.old) (2 * products.new) }
 {
     let tiles = 1usize << (log_h - log_rows);
     let size = values.len() / tiles;

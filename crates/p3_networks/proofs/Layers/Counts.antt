@@ -31,10 +31,17 @@ turn_counted n size made before now after full so_far turn =
     let next : (n + 1) * size ≡ n * size + size = omega arith in omega (arith, next, full, so_far, turn)
 
 -- what so many turns make, by twice what each makes
-pub turns_halved : (turns n size before after : ℕ) → turns ≡ n → 2 * after ≤ 2 * before + turns * (2 * size) → after ≤ before + n * size
+pub turns_halved : (turns n size before after : ℕ) → turns ≡ n → RisesAtMost (turns * (2 * size)) (2 * before) (2 * after) → RisesAtMost (n * size) before after
 turns_halved turns n size before after is made =
     let spread : turns * (2 * size) ≡ 2 * (turns * size) = omega arith in
-    omega (arith, made, spread, ap (λ t. t * size) is)
+    record { grows = omega (arith, made.grows); cost = omega (arith, made.cost, spread, ap (λ t. t * size) is) }
+
+pub rises_halved : (n before after : ℕ) → RisesAtMost (2 * n) (2 * before) (2 * after) → RisesAtMost n before after
+rises_halved n before after twice = record { grows = omega (arith, twice.grows); cost = omega (arith, twice.cost) }
+
+-- at most as many, by another name of their number
+pub rises_as : (n m before after : ℕ) → n ≡ m → RisesAtMost n before after → RisesAtMost m before after
+rises_as n m before after same made = record { grows = made.grows; cost = omega (arith, made.cost, same) }
 
 -- what holds of so many turns, when a loop is over
 pub at_end : (P : ℕ → Type 0) (n turns : ℕ) → n ≤ turns → turns ≤ n → P n → P turns

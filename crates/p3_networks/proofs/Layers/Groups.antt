@@ -5,7 +5,8 @@ use Rattle.std.proofs.Math.Nat.{div-le_self, mul-le-mul, mul-le-mul_left, mul-le
 use Rattle.std.proofs.lemmas.Bool.{cases_lt}
 use Rattle.std.proofs.lemmas.Nat.{div-add-mod', div_below, mod_below, one_shl, pow-add, pow_pos}
 use Rattle.p3_matrix.proofs.TwoPowers.{log_lt}
-use Rattle.p3_networks.specs.Groups.{AreLayersInOrder, HoldsColumns, TakesColumns, cells_of, layer_of, group_end, group_of}
+use Rattle.p3_networks.specs.Counts.{RisesAtMost}
+use Rattle.p3_networks.specs.Groups.{AreLayersInOrder, HoldsColumns, IsGroupChunk, TakesColumns, cells_of, layer_of, group_end, group_of}
 use Rattle.p3_networks.specs.Layers.{HoldsCells, IsLayer}
 use Rattle.p3_networks.specs.declared.groups.Order.{Order}
 use Rattle.p3_networks.specs.declared.groups.Order.TheVariants.{LargestFirst, SmallestFirst}
@@ -81,6 +82,10 @@ part_sizes from to number w order small =
       rows = ap (λ n. n * w) (sym joined) ∙ omega arith;
     }
 
+pub group_sizes : {w from to cells number n : ℕ} {has : ℕ → Type 0} → IsGroupChunk w from to cells number has n
+    → PartSizes from to number w (one_shifted from * w)
+group_sizes {w} {from} {to} {cells} {number} group = part_sizes from to number w group.order group.fits_u64
+
 -- the rule has the blocks of a chunk
 pub block_there : (top e number b : ℕ) → e < top → b < (number + 1) * 2 ^ (top - 1 - e) → 2 * b < (number + 1) * 2 ^ top
 block_there top e number b below inside =
@@ -137,8 +142,8 @@ module _ {A T : Type 0} (value : T → A) (d : T) (at end : ℕ) where
 
 -- what a layer counts on a piece of n cells of each part
 pub piece_layer_counted : (cost done rows blocks half n before now after : ℕ) → blocks * (2 * half) ≡ rows
-    → 2 * now ≤ 2 * before + cost * (done * (rows * n)) → after ≤ now + cost * (blocks * (half * n))
-    → 2 * after ≤ 2 * before + cost * ((done + 1) * (rows * n))
+    → RisesAtMost (cost * (done * (rows * n))) (2 * before) (2 * now) → RisesAtMost (cost * (blocks * (half * n))) now after
+    → RisesAtMost (cost * ((done + 1) * (rows * n))) (2 * before) (2 * after)
 piece_layer_counted cost done rows blocks half n before now after is so_far layer =
     let all : rows * n ≡ 2 * (blocks * (half * n)) =
     ap (λ m. m * n) (sym is)
@@ -147,7 +152,7 @@ piece_layer_counted cost done rows blocks half n before now after is so_far laye
     ap (λ m. cost * m) all
     ∙ (let swap : cost * (2 * (blocks * (half * n))) ≡ 2 * (cost * (blocks * (half * n))) = omega arith in swap) in
     let next : cost * ((done + 1) * (rows * n)) ≡ cost * (done * (rows * n)) + cost * (rows * n) = omega arith in
-    omega (arith, so_far, layer, each, next)
+    record { grows = omega (arith, so_far.grows, layer.grows); cost = omega (arith, so_far.cost, layer.cost, each, next) }
 
 -- piece p of a part, of which the program has the size in a variable of its own: it begins and ends within it, and behind it comes the next
 pub record Piece (p piece part rest : ℕ) : Type 0 where
@@ -227,13 +232,13 @@ module _ {A T : Type 0} (value : T → A) (d : T) (part rows first : ℕ) where
       ∙ ap (λ n. to (first + n)) back
 
 pub pieces_counted : (cost layers rows at end before now after : ℕ) → at ≤ end
-    → 2 * now ≤ 2 * before + cost * (layers * (rows * at)) → 2 * after ≤ 2 * now + cost * (layers * (rows * (end - at)))
-    → 2 * after ≤ 2 * before + cost * (layers * (rows * end))
+    → RisesAtMost (cost * (layers * (rows * at))) before now → RisesAtMost (cost * (layers * (rows * (end - at)))) now after
+    → RisesAtMost (cost * (layers * (rows * end))) before after
 pieces_counted cost layers rows at end before now after order so_far piece =
     let both : cost * (layers * (rows * (at + (end - at)))) ≡ cost * (layers * (rows * at)) + cost * (layers * (rows * (end - at))) = omega arith in
     let is : at + (end - at) ≡ end = omega (arith, order) in
     let all = ap (λ n. cost * (layers * (rows * n))) is in
-    omega (arith, so_far, piece, both, all)
+    record { grows = omega (arith, so_far.grows, piece.grows); cost = omega (arith, so_far.cost, piece.cost, both, all) }
 
 -- which cells stand when so many groups are done
 abbrev pub stand : Order → ℕ → ℕ → ℕ → ℕ → ℕ
@@ -295,8 +300,7 @@ covered_last SmallestFirst r k count order enough = let e : r + (k - r - 3 * (co
 
 -- layers more, each of which counts so much
 pub layers_more : (cost done more all size before now after : ℕ) → all ≡ done + more
-    → 2 * now ≤ 2 * before + cost * (done * size) → 2 * after ≤ 2 * now + cost * (more * size)
-    → 2 * after ≤ 2 * before + cost * (all * size)
+    → RisesAtMost (cost * (done * size)) before now → RisesAtMost (cost * (more * size)) now after → RisesAtMost (cost * (all * size)) before after
 layers_more cost done more all size before now after is so_far group =
     let both : cost * ((done + more) * size) ≡ cost * (done * size) + cost * (more * size) = omega arith in
-    omega (arith, so_far, group, both, ap (λ n. cost * (n * size)) is)
+    record { grows = omega (arith, so_far.grows, group.grows); cost = omega (arith, so_far.cost, group.cost, both, ap (λ n. cost * (n * size)) is) }

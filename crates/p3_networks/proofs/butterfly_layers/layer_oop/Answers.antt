@@ -21,4 +21,4 @@ returns-clause-cost g c =
     let cost = g.B.Butterfly.cost in
     let swap : c.args.blocks * (cost * c.args.size) ≡ cost * (c.args.blocks * c.args.size) = omega arith in
     subst (λ n. c.on_each_chunk.new.products ≤ c.args.products.now + n) swap
-    (turns_halved _ c.args.blocks (cost * c.args.size) _ _ refl c.on_each_chunk.ensures.cost)
+    (turns_halved _ c.args.blocks (cost * c.args.size) _ _ refl c.on_each_chunk.ensures.cost).cost

@@ -39,4 +39,5 @@ returns-clause-cost g c =
     let cost = g.R.Rule.cost in
     let size = c.args.half * c.args.width in
     let swap : c.args.blocks * (cost * size) ≡ cost * (c.args.blocks * size) = omega arith in
-    subst (λ n. c.on_each_chunk.new.products ≤ c.args.products.now + n) swap (turns_halved _ c.args.blocks (cost * size) _ _ refl c.on_each_chunk.ensures.cost)
+    subst (λ n. c.on_each_chunk.new.products ≤ c.args.products.now + n) swap
+    (turns_halved _ c.args.blocks (cost * size) _ _ refl c.on_each_chunk.ensures.cost).cost

@@ -1,13 +1,9 @@
-use Rattle.std.proofs.Common.{◌≡◌, ◌+◌, ◌*◌, ◌≤◌, length, sym, ap, ◌∙◌, subst, arith, ℕ, Fits-le, le-add_right, le_refl, le_trans, lt_of_lt_of_le}
+use Rattle.std.proofs.Common.{◌*◌, length, sym, ap, ◌∙◌, subst, Fits-le, le-add_right, le_refl, le_trans, lt_of_lt_of_le}
 use borrow.Author.Rules.{scaled_fits≤}
-use Rattle.p3_networks.proofs.Layers.Counts.{at_end}
+use Rattle.p3_networks.proofs.Layers.Counts.{rises_joined, rises_within}
 use Rattle.p3_networks.proofs.Layers.Halves.{block_room, part_length}
 use Rattle.p3_networks.proofs.Rows.EachChunk.{chunks_next, chunks_none}
 use Rattle.p3_networks.proofs.chunks.on_each_chunk.Goals as goal
-
--- one chunk more
-chunk_counted : (n each cost before now after : ℕ) → cost ≡ each → now ≤ before + n * each → after ≤ now + cost → after ≤ before + (n + 1) * each
-chunk_counted n each cost before now after is so_far turn = let next : (n + 1) * each ≡ n * each + each = omega arith in omega (arith, next, is, so_far, turn)
 
 pub overflow_mul-start : goal.overflow_mul-start
 overflow_mul-start g c =
@@ -36,7 +32,10 @@ on_chunk-requires g c =
     (c.requires.accepts c.loop-n.n c.loop-n-test.true)
 
 pub loop-n-init : goal.loop-n-init
-loop-n-init g c = record { chunks = chunks_none _ _ _ c.args.values.now; grows = le_refl c.args.products.now; cost = le-add_right _ _ }
+loop-n-init g c = record {
+  chunks = chunks_none _ _ _ c.args.values.now;
+  cost = record { grows = le_refl _; cost = le-add_right _ _ };
+}
 
 pub loop-n-preserved : goal.loop-n-preserved
 loop-n-preserved g c =
@@ -49,8 +48,7 @@ loop-n-preserved g c =
       chunks =
           chunks_next _ size _ c.args.values.now c.loop-n.values _ n room (c.on_chunk.auto.chunk ∙ part)
           c.on_chunk.ensures.chunk c.loop-n.invariant.chunks;
-      grows = le_trans c.loop-n.invariant.grows c.on_chunk.ensures.grows;
-      cost = chunk_counted n _ _ _ _ _ (ap cost part) c.loop-n.invariant.cost c.on_chunk.ensures.cost;
+      cost = rises_joined n (cost size) _ _ _ _ (ap cost part) c.loop-n.invariant.cost c.on_chunk.ensures.cost;
     }
 
 pub returns-clause-chunks : goal.returns-clause-chunks
@@ -58,5 +56,4 @@ returns-clause-chunks g c n below = c.loop-n.invariant.chunks.done n (lt_of_lt_o
 
 pub returns-clause-cost : goal.returns-clause-cost
 returns-clause-cost g c =
-    at_end (λ n. 2 * c.loop-n.products ≤ 2 * c.args.products.now + n * g.W.ChunkWork.cost c.args.work c.args.size)
-    c.loop-n.n c.args.count c.loop-n.auto.n-end c.loop-n-test.false c.loop-n.invariant.cost
+    rises_within c.loop-n.n c.args.count (g.W.ChunkWork.cost c.args.work c.args.size) _ _ c.loop-n.auto.n-end c.loop-n.invariant.cost

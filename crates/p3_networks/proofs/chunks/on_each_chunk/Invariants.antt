@@ -1,4 +1,5 @@
-use Rattle.std.proofs.Common.{◌+◌, ◌*◌, ◌≤◌}
+use Rattle.std.proofs.Common.{◌*◌}
+use Rattle.p3_networks.specs.Counts.{RisesAtMost}
 use Rattle.p3_networks.proofs.Rows.EachChunk.{ChunksDone}
 use Rattle.p3_networks.proofs.chunks.on_each_chunk.Given as goal
 
@@ -7,6 +8,5 @@ invariant-loop-n g l =
     let work = g.W.ChunkWork in
     record {
       chunks : ChunksDone g.F.Valued.zero l.fn.size (work.takes l.fn.work) l.fn.values l.n l.values;
-      grows : l.fn.products ≤ l.products;
-      cost : 2 * l.products ≤ 2 * l.fn.products + l.n * work.cost l.fn.work l.fn.size;
+      cost : RisesAtMost (l.n * work.cost l.fn.work l.fn.size) (2 * l.fn.products) (2 * l.products);
     }

@@ -1,6 +1,6 @@
-use Rattle.std.proofs.Common.{◌≡◌, ℕ, ◌+◌, ◌*◌, ◌-◌, ◌≤◌, length, refl, subst, arith}
+use Rattle.std.proofs.Common.{◌≡◌, ℕ, ◌*◌, ◌-◌, length, refl, arith}
 use Rattle.p3_networks.proofs.Layers.Columns.{blocks_of_columns}
-use Rattle.p3_networks.proofs.Layers.Counts.{turns_halved}
+use Rattle.p3_networks.proofs.Layers.Counts.{rises_as, turns_halved}
 use Rattle.p3_networks.proofs.Layers.Halves.{block_room}
 use Rattle.p3_networks.proofs.groups.layer_of_columns.Goals as goal
 
@@ -40,4 +40,4 @@ returns-clause-cost g c =
     let cost = g.R.Rule.cost in
     let size = c.args.meet.half * (c.args.meet.end - c.args.meet.at) in
     let swap : c.args.blocks * (cost * size) ≡ cost * (c.args.blocks * size) = omega arith in
-    subst (λ n. c.on_each_chunk.new.products ≤ c.args.products.now + n) swap (turns_halved _ c.args.blocks (cost * size) _ _ refl c.on_each_chunk.ensures.cost)
+    rises_as _ _ _ _ swap (turns_halved _ c.args.blocks (cost * size) _ _ refl c.on_each_chunk.ensures.cost)

@@ -1,6 +1,7 @@
-use Rattle.std.proofs.Common.{◌≡◌, ℕ, ◌+◌, ◌-◌, ◌*◌, ◌≤◌, length, sym, ap, ap₂, ◌∙◌, subst, arith}
+use Rattle.std.proofs.Common.{◌≡◌, ℕ, ◌+◌, ◌-◌, ◌*◌, ◌≤◌, length, sym, ap, ap₂, ◌∙◌, subst, arith, le_refl}
 use Rattle.p3_networks.specs.Groups.{cells_of, group_end, group_of}
 use Rattle.p3_networks.specs.Layers.{HoldsCells}
+use Rattle.p3_networks.proofs.Layers.Counts.{rises_as}
 use Rattle.p3_networks.proofs.Layers.Groups.{covered, covered_first, covered_last, covered_next, group_first}
 use Rattle.p3_networks.proofs.Layers.Groups.{group_last, layers_more, stand, stand_first, stand_last}
 use Rattle.p3_networks.proofs.groups.layers_in_groups.Goals as goal
@@ -14,8 +15,7 @@ loop-done-init g c =
       cells =
           λ cells layers holds. subst (λ (e : ℕ). HoldsCells field.value field.zero 0 (cells e) c.args.values.now)
           (stand_first c.args.order c.args.log_rows c.args.log_h c.groups-count.result c.requires.below enough) holds;
-      grows = omega arith;
-      cost = omega arith;
+      cost = record { grows = le_refl _; cost = omega arith };
     }
 
 pub loop-done-preserved : goal.loop-done-preserved
@@ -42,14 +42,10 @@ loop-done-preserved g c =
           subst (λ (e : ℕ). HoldsCells field.value field.zero 0 (cells e) c.group_on_chunks.new.values) last
           (c.group_on_chunks.ensures.cells cells layers
           (subst (λ (e : ℕ). HoldsCells field.value field.zero 0 (cells e) c.loop-done.values) first (c.loop-done.invariant.cells cells layers holds)));
-      grows = omega (arith, c.loop-done.invariant.grows, c.group_on_chunks.ensures.grows);
       cost =
           layers_more g.R.Rule.cost (covered order r k n done) (to - from) (covered order r k n (done + 1))
-          (length c.args.values.now) c.args.products.now c.loop-done.products c.group_on_chunks.new.products more
-          c.loop-done.invariant.cost
-          (subst (λ (m : ℕ). 2 * c.group_on_chunks.new.products
-          ≤ 2 * c.loop-done.products + g.R.Rule.cost * ((to - from) * m)) c.loop-done.auto.values
-          c.group_on_chunks.ensures.cost);
+          (length c.args.values.now) _ _ _ more c.loop-done.invariant.cost
+          (rises_as _ _ _ _ (ap (λ m. g.R.Rule.cost * ((to - from) * m)) c.loop-done.auto.values) c.group_on_chunks.ensures.cost);
     }
 
 pub returns-clause-cells : goal.returns-clause-cells
@@ -67,6 +63,6 @@ returns-clause-cost g c =
     let n = c.groups-count.result in
     let enough : c.args.log_h - c.args.log_rows ≤ 3 * n = omega (arith, c.groups-count.ensures) in
     let end : c.loop-done.done ≡ n = omega arith in
-    subst (λ (m : ℕ). 2 * c.loop-done.products ≤ 2 * c.args.products.now + g.R.Rule.cost * (m * length c.args.values.now))
-    (ap (λ m. covered c.args.order c.args.log_rows c.args.log_h n m) end ∙ covered_last c.args.order c.args.log_rows c.args.log_h n c.requires.below enough)
+    rises_as _ _ _ _ (ap (λ m. g.R.Rule.cost * (m * length c.args.values.now))
+    (ap (λ m. covered c.args.order c.args.log_rows c.args.log_h n m) end ∙ covered_last c.args.order c.args.log_rows c.args.log_h n c.requires.below enough))
     c.loop-done.invariant.cost

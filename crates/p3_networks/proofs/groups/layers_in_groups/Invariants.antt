@@ -1,4 +1,5 @@
-use Rattle.std.proofs.Common.{ℕ, ◌+◌, ◌*◌, ◌≤◌, length}
+use Rattle.std.proofs.Common.{ℕ, ◌*◌, length}
+use Rattle.p3_networks.specs.Counts.{RisesAtMost}
 use Rattle.p3_networks.specs.Groups.{AreLayersInOrder, cells_of}
 use Rattle.p3_networks.specs.Layers.{HoldsCells}
 use Rattle.p3_networks.proofs.Layers.Groups.{covered, stand}
@@ -14,6 +15,6 @@ invariant-loop-done g l =
       cells : (cells : ℕ → ℕ → field.Element) → AreLayersInOrder l.fn.order l.fn.log_h l.fn.width near far cells
           → HoldsCells field.value field.zero 0 (cells (cells_of l.fn.order l.fn.log_rows l.fn.log_h 0)) l.fn.values
           → HoldsCells field.value field.zero 0 (cells (stand l.fn.order l.fn.log_rows l.fn.log_h l.count l.done)) l.values;
-      grows : l.fn.products ≤ l.products;
-      cost : 2 * l.products ≤ 2 * l.fn.products + rule.cost * (covered l.fn.order l.fn.log_rows l.fn.log_h l.count l.done * length l.fn.values);
+      cost : RisesAtMost (rule.cost * (covered l.fn.order l.fn.log_rows l.fn.log_h l.count l.done * length l.fn.values))
+          (2 * l.fn.products) (2 * l.products);
     }

@@ -55,9 +55,4 @@ returns-clause-values g c root s roots table a t j below inside column =
 pub returns-clause-cost : goal.returns-clause-cost
 returns-clause-cost g c =
     let sizes = tile_sizes c.args.log_h c.args.mid c.args.width (length c.args.values.now) c.requires.rows.fits_u64 c.requires.parts c.requires.rows.size in
-    record {
-      grows = c.on_each_chunk.ensures.grows;
-      cost =
-          turns_halved _ _ (c.args.width * (c.args.mid * 2 ^ c.args.mid / 2)) _ _ sizes.tiles_is
-          c.on_each_chunk.ensures.cost;
-    }
+    turns_halved _ _ (c.args.width * (c.args.mid * 2 ^ c.args.mid / 2)) _ _ sizes.tiles_is c.on_each_chunk.ensures.cost

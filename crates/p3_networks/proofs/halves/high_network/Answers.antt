@@ -40,6 +40,7 @@ scaled_layer-requires-clause-size g c =
     let flat : 1 * (2 * (2 ^ (k - 1) * c.args.width)) ≡ 1 * (2 * 2 ^ (k - 1)) * c.args.width = omega arith in
     rw half (c.requires.chunk.size ∙ ap (λ n. n * c.args.width) (sym (first_whole k c.requires.nonzero)) ∙ sym flat)
 
+-- The first layer has one block, whose rows are multiplied by the scale on the way: it leads from the coefficients to the formula after one layer.
 pub loop-done-init : goal.loop-done-init
 loop-done-init g c =
     let field = g.F.Valued in
@@ -108,6 +109,7 @@ layer_by_block-requires-clause-in_table g c =
     c.requires.chunk.table (c.args.mid + c.loop-done.done) (le-add_right c.args.mid c.loop-done.done)
     (in_second_half c.args.mid c.loop-done.done c.args.left c.loop-done-test.true)
 
+-- One layer more: block u of the chunk has the twiddle of that block of the whole, so the layer leads from a formula to the next.
 pub loop-done-preserved : goal.loop-done-preserved
 loop-done-preserved g c =
     let field = g.F.Valued in

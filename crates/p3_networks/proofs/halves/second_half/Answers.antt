@@ -42,10 +42,5 @@ returns-clause-values g c root s roots table a t j below inside column =
 
 pub returns-clause-cost : goal.returns-clause-cost
 returns-clause-cost g c =
-    record {
-      grows = c.on_each_chunk.ensures.grows;
-      cost =
-          turns_halved _ _ (c.args.width * (c.args.left * 2 ^ c.args.left / 2)
-          + scale_cost c.args.scale * (2 ^ c.args.left * c.args.width)) _ _
-          (first_shift c.args.mid c.args.left c.requires.rows.fits_u64) c.on_each_chunk.ensures.cost;
-    }
+    turns_halved _ _ (c.args.width * (c.args.left * 2 ^ c.args.left / 2) + scale_cost c.args.scale * (2 ^ c.args.left * c.args.width)) _ _
+    (first_shift c.args.mid c.args.left c.requires.rows.fits_u64) c.on_each_chunk.ensures.cost

@@ -42,7 +42,7 @@ returns-then-count-gt0-clause-cost g c =
     let count = length c.args.twiddles.now / width in
     let p = whole_packs (length c.args.twiddles.now) c.requires.whole.0 _ c.WIDTH-width.result c.requires.width c.WIDTH-width.ensures c.requires.whole.1 in
     let made = turns_halved count count width c.args.products.now c.on_each_chunk.new.products refl c.on_each_chunk.ensures.cost in
-    record { grows = c.on_each_chunk.ensures.grows; cost = omega (arith, made, p) }
+    record { grows = made.grows; cost = omega (arith, made.cost, p) }
 
 pub returns-else-count-gt0-clause-pairs : goal.returns-else-count-gt0-clause-pairs
 returns-else-count-gt0-clause-pairs g c =

@@ -10,6 +10,7 @@ use Rattle.p3_networks.proofs.Networks.LowLayers.{low_done, low_layer}
 use Rattle.p3_networks.proofs.Tables.RootPowers.{fewer_roots, subgroup_table}
 use Rattle.p3_networks.proofs.radix_2_dit.+dit_network_to_natural.Goals as goal
 
+-- The lower half is a network of half the height: its height falls, it keeps width, roots and table, and it has half of the entries.
 pub dit_network_to_natural-requires : goal.dit_network_to_natural-requires
 dit_network_to_natural-requires g t c κs within =
     let k = c.args.log_h in
@@ -42,6 +43,7 @@ dit_network_to_natural-requires g t c κs within =
       ),
     )
 
+-- So is the upper half, which has what the lower one leaves of the entries.
 pub dit_network_to_natural-requires-then-values-gt-CACHED : goal.dit_network_to_natural-requires-then-values-gt-CACHED
 dit_network_to_natural-requires-then-values-gt-CACHED g t c κs within =
     let k = c.args.log_h in

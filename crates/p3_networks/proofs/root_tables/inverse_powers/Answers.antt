@@ -67,6 +67,7 @@ bounds-powers-chunk g c =
     let chunk = chunk_of (c.args.log_h - 1) c.loop-l.l (omega (arith, c.requires.nonzero, c.requires.fits_u64)) (omega (arith, c.loop-l-test.true)) in
     omega (arith, chunk.room, chunk.is, c.requires.powers.size, c.loop-b.auto.b, pow_pos c.loop-l.l)
 
+-- One inverse power more is pushed: within its chunk of 2 ^ l it is minus the power in the opposite place.
 pub loop-b-preserved : goal.loop-b-preserved
 loop-b-preserved g c =
     let field = g.F.Valued in

@@ -17,6 +17,7 @@ offset_bounds-values-start g c =
     let below : c.loop-i.i * w ≤ len = omega (arith, room) in
     scaled_fits≤ _ _ _ below (search rules)
 
+-- One pack more is multiplied, lane by lane, by the factors of its places. The factors then go on by as many places as a pack has.
 pub loop-i-preserved : goal.loop-i-preserved
 loop-i-preserved g c =
     let field = g.F.Valued in

@@ -18,6 +18,7 @@ loop-i-init g c =
       count = omega arith;
     }
 
+-- One row more is multiplied: its entries by the powers of shift and step that the invariant names for it. Both factors then go on by one power.
 pub loop-i-preserved : goal.loop-i-preserved
 loop-i-preserved g c =
     let field = g.F.Valued in

@@ -42,6 +42,6 @@ returns-clause-cost g c =
     omega (arith, c.layers_of_tiles.ensures.cost.cost, ap (λ n. n * len) back) in
     let second : 2 * c.layers_in_groups.new.products ≤ 2 * c.layers_of_tiles.new.products + (k - r) * len =
     let each = ap (λ n. (k - r) * n) c.layers_of_tiles.auto.values in
-    omega (arith, c.layers_in_groups.ensures.cost, each) in
+    omega (arith, c.layers_in_groups.ensures.cost.cost, each) in
     counted_twice k c.args.width len c.args.products.now c.layers_in_groups.new.products c.requires.size
     (layers_joined (k - r) k len c.args.products.now c.layers_of_tiles.new.products c.layers_in_groups.new.products (omega arith) first second)

@@ -43,7 +43,7 @@ pub returns-clause-cost : goal.returns-clause-cost
 returns-clause-cost g c =
     let len = length c.args.values.now in
     let first : 2 * c.layers_in_groups.new.products ≤ 2 * c.args.products.now + (c.args.log_h - c.args.log_rows) * len =
-    omega (arith, c.layers_in_groups.ensures.cost) in
+    omega (arith, c.layers_in_groups.ensures.cost.cost) in
     let second : 2 * c.layers_of_tiles.new.products ≤ 2 * c.layers_in_groups.new.products + c.args.log_rows * len =
     let each = ap (λ n. c.args.log_rows * n) c.layers_in_groups.auto.values in
     omega (arith, c.layers_of_tiles.ensures.cost.cost, each) in

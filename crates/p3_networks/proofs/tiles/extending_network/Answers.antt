@@ -30,6 +30,7 @@ layers_in_groups-requires-clause-in_table g c b inside =
           c.args.twiddles.now c.requires.nonzero c.requires.twiddles,
     )
 
+-- The rows, spread, are the cells that the first layers make of a column with zeros behind it; the other layers lead from there to its values.
 pub returns-clause-values : goal.returns-clause-values
 returns-clause-values g c r j below inside =
     let field = g.F.Valued in
@@ -75,12 +76,10 @@ returns-clause-cost g c =
     let k = c.args.log_h in
     let a = c.args.coefficients.added_bits in
     let each : (k - r) * length c.spread_tiles.new.values ≡ (k - r) * len = ap (λ n. (k - r) * n) c.spread_tiles.auto.values in
-    let second : 2 * c.layers_in_groups.new.products ≤ 2 * c.spread_tiles.new.products + (k - r) * len = omega (arith, c.layers_in_groups.ensures.cost, each) in
+    let second : 2 * c.layers_in_groups.new.products ≤ 2 * c.spread_tiles.new.products + (k - r) * len =
+    omega (arith, c.layers_in_groups.ensures.cost.cost, each) in
     let all : (r - a + 2) * len + (k - r) * len ≡ (k - a + 2) * len =
     let e : r - a + 2 + (k - r) ≡ k - a + 2 = omega (arith, c.requires.added, c.requires.below) in
     let d : (r - a + 2) * len + (k - r) * len ≡ (r - a + 2 + (k - r)) * len = omega arith in
     d ∙ ap (λ n. n * len) e in
-    omega (arith, c.spread_tiles.ensures.cost, second, all)
-
-pub spread_tiles-requires-clause-nonzero : goal.spread_tiles-requires-clause-nonzero
-spread_tiles-requires-clause-nonzero g c = c.requires.twiddles.size 0 c.requires.nonzero
+    omega (arith, c.spread_tiles.ensures.cost.cost, second, all)

@@ -5,6 +5,7 @@ use Rattle.p3_networks.proofs.Layers.Chunks.{chunk_taken}
 use Rattle.p3_networks.proofs.Layers.Orders.{layer_does}
 use Rattle.p3_networks.proofs.tiles.layer_of_pairs.Goals as goal
 
+-- Neighbours are the halves of blocks of two cells, and pair b has the twiddle of block b of the chunk: so pairs that meet are the first layer.
 pub returns-clause-cells : goal.returns-clause-cells
 returns-clause-cells g c =
     let field = g.F.Valued in

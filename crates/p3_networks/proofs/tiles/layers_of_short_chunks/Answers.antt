@@ -65,7 +65,7 @@ returns g c =
             holds;
       };
       cost = record {
-        grows = omega (arith, c.on_each_chunk.ensures.grows);
-        cost = omega (arith, c.on_each_chunk.ensures.cost, tiles_cost _ _ _ _ _ _ (g.D.Decimation.cost * 6) sizes);
+        grows = omega (arith, c.on_each_chunk.ensures.cost.grows);
+        cost = omega (arith, c.on_each_chunk.ensures.cost.cost, tiles_cost _ _ _ _ _ _ (g.D.Decimation.cost * 6) sizes);
       };
     }

@@ -80,7 +80,7 @@ returns-clause-cost g c =
     let each : (c.args.log_h - r) * length c.scaled_dif_tiles.new.values ≡ (c.args.log_h - r) * len =
     ap (λ n. (c.args.log_h - r) * n) c.scaled_dif_tiles.auto.values in
     let second : 2 * c.layers_in_groups.new.products ≤ 2 * c.scaled_dif_tiles.new.products + (c.args.log_h - r) * len =
-    omega (arith, c.layers_in_groups.ensures.cost, each) in
+    omega (arith, c.layers_in_groups.ensures.cost.cost, each) in
     let all = counted_twice c.args.log_h c.args.width len (c.args.products.now + len) c.layers_in_groups.new.products c.requires.size
     (layers_joined (c.args.log_h - r) c.args.log_h len (c.args.products.now + len) c.scaled_dif_tiles.new.products
     c.layers_in_groups.new.products (omega arith) first second) in

@@ -42,6 +42,6 @@ returns-clause-cost g c =
     tile_sizes c.args.log_h c.args.log_rows c.args.width (length c.args.values.now) c.requires.rows.fits_u64
     c.requires.below c.requires.rows.size in
     record {
-      grows = omega (arith, c.on_each_chunk.ensures.grows);
-      cost = omega (arith, c.on_each_chunk.ensures.cost, tiles_cost _ _ _ _ _ _ (c.args.log_rows + 2) sizes);
+      grows = omega (arith, c.on_each_chunk.ensures.cost.grows);
+      cost = omega (arith, c.on_each_chunk.ensures.cost.cost, tiles_cost _ _ _ _ _ _ (c.args.log_rows + 2) sizes);
     }

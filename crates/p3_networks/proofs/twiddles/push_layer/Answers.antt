@@ -43,6 +43,7 @@ loop-l-init g c =
           ∙ ap (field.ring.mul (field.value first)) (power-zero field.ring (field.value c.args.base)) ∙ field.ring.mul_one (field.value first));
     }
 
+-- The entries are doubled: those that are there stay, and behind them come their multiples by the root of the next layer.
 pub loop-l-preserved : goal.loop-l-preserved
 loop-l-preserved g c =
     let field = g.F.Valued in

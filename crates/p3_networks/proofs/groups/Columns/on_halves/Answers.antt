@@ -42,6 +42,7 @@ other_rows t part at end n inside outside = ⊎_elim (λ before. inl (omega (ari
 columns_of : (t part at end : ℕ) → t * part + end - (t * part + at) ≡ end - at
 columns_of t part at end = omega arith
 
+-- One row more of each half: its columns meet, the others stay, and so do the other rows.
 pub loop-t-preserved : goal.loop-t-preserved
 loop-t-preserved g c =
     let field = g.F.Valued in

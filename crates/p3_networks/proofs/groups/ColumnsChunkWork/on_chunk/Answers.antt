@@ -3,6 +3,7 @@ use Rattle.p3_networks.proofs.Layers.Blocks.{row_below}
 use Rattle.p3_networks.proofs.Layers.Halves.{in_first, in_second, of_halves}
 use Rattle.p3_networks.proofs.groups.ColumnsChunkWork.on_chunk.Goals as goal
 
+-- What is said of the rows of the two halves is said of the block, which is one half behind the other.
 pub returns-clause-chunk : goal.returns-clause-chunk
 returns-clause-chunk g c =
     let field = g.F.Valued in

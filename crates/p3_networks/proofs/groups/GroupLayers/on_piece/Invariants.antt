@@ -1,4 +1,5 @@
 use Rattle.std.proofs.Common.{ℕ, ◌+◌, ◌-◌, ◌*◌, ◌^◌, ◌≤◌, length}
+use Rattle.p3_networks.specs.Counts.{RisesAtMost}
 use Rattle.p3_networks.specs.Groups.{AreLayersInOrder, HoldsColumns, TakesColumns, cells_of}
 use Rattle.p3_networks.proofs.groups.GroupLayers.on_piece.Given as goal
 
@@ -18,6 +19,5 @@ invariant-loop-done g l =
           (cells (cells_of l.fn.self.order l.fn.self.from l.fn.self.to 0)) l.fn.chunk
           → TakesColumns field.value field.zero (2 ^ l.fn.self.from * l.fn.self.width) rows first l.fn.at l.fn.end
           (cells (cells_of l.fn.self.order l.fn.self.from l.fn.self.to l.done)) l.fn.chunk l.chunk;
-      grows : l.fn.products ≤ l.products;
-      cost : 2 * l.products ≤ 2 * l.fn.products + rule.cost * (l.done * (rows * (l.fn.end - l.fn.at)));
+      cost : RisesAtMost (rule.cost * (l.done * (rows * (l.fn.end - l.fn.at)))) (2 * l.fn.products) (2 * l.products);
     }

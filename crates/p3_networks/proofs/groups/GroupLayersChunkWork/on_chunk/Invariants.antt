@@ -1,4 +1,5 @@
 use Rattle.std.proofs.Common.{ℕ, ◌+◌, ◌-◌, ◌*◌, ◌^◌, ◌≤◌, length}
+use Rattle.p3_networks.specs.Counts.{RisesAtMost}
 use Rattle.p3_networks.specs.Groups.{AreLayersInOrder, TakesColumns, cells_of}
 use Rattle.p3_networks.specs.Layers.{HoldsCells}
 use Rattle.p3_networks.proofs.groups.GroupLayersChunkWork.on_chunk.Given as goal
@@ -21,6 +22,5 @@ invariant-loop-p g l =
           → TakesColumns field.value field.zero part rows first 0 done
           (cells (cells_of l.fn.self.order l.fn.self.from l.fn.self.to (l.fn.self.to - l.fn.self.from))) l.fn.chunk
           l.chunk;
-      grows : l.fn.products ≤ l.products;
-      cost : 2 * l.products ≤ 2 * l.fn.products + rule.cost * ((l.fn.self.to - l.fn.self.from) * (rows * (done - (done - part))));
+      cost : RisesAtMost (rule.cost * ((l.fn.self.to - l.fn.self.from) * (rows * (done - (done - part))))) (2 * l.fn.products) (2 * l.products);
     }

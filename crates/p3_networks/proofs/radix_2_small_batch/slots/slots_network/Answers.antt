@@ -72,4 +72,4 @@ returns-clause-cost g c =
     let rows = ap (λ n. n * c.args.width) (first_shift k a c.requires.fits_u64) in
     let first : c.evaluate_to_reversed.new.products ≤ c.on_each_chunk.new.products + turn =
     omega (arith, c.shift_values.ensures.cost, rows, c.evaluate_to_reversed.ensures.cost.cost) in
-    slots_counted a _ turn _ _ _ (second_shift k a c.requires.fits_u64) c.on_each_chunk.ensures.cost first
+    slots_counted a _ turn _ _ _ (second_shift k a c.requires.fits_u64) c.on_each_chunk.ensures.cost.cost first

@@ -94,6 +94,7 @@ join_scaled-requires g c =
       sizes.whole,
     )
 
+-- Each half of the tile is a tile of one layer less, and holds the cells before the last layer; the scaled layer joins both.
 pub returns-clause-chunk : goal.returns-clause-chunk
 returns-clause-chunk g c k cells layers room holds =
     let field = g.F.Valued in
@@ -157,5 +158,8 @@ returns-clause-cost g c =
     (subst (λ (m : ℕ). 2 * c.layers_of_tile-2.new.products ≤ 2 * c.layers_of_tile.new.products + 1 * ((r - 1) * m))
     was_high c.layers_of_tile-2.ensures.cost.cost)
     (c.join_scaled.ensures.count ∙ ap (λ m. c.layers_of_tile-2.new.products + 2 * m) (c.layers_of_tile.auto.values ∙ was_low)) in
-    subst (λ (m : ℕ). 2 * c.join_scaled.new.products ≤ 2 * c.args.products.now + m)
-    (ap (λ m. m * (2 * h)) next ∙ ap (λ m. (r + 2) * m) (sym sizes.whole)) counted
+    record {
+      grows = omega (arith, c.layers_of_tile.ensures.cost.grows, c.layers_of_tile-2.ensures.cost.grows, c.join_scaled.ensures.count);
+      cost = subst (λ (m : ℕ). 2 * c.join_scaled.new.products ≤ 2 * c.args.products.now + m)
+          (ap (λ m. m * (2 * h)) next ∙ ap (λ m. (r + 2) * m) (sym sizes.whole)) counted;
+    }

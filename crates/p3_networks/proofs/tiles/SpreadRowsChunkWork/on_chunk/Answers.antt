@@ -54,7 +54,10 @@ returns-clause-chunk g c t j copy inside =
     (ap₂ (λ x y. field.ring.mul x (power field.ring y t)) weight root)
 
 pub returns-clause-cost : goal.returns-clause-cost
-returns-clause-cost g c =
-    twice_counted _ _ _ _ c.multiples_of_row.ensures.cost (c.requires.1
-    ∙ ap (λ v. c.args.self.now.copies * v)
-    (sym (ap length c.chunk-row.ensures ∙ part_size c.args.self.now.rows.now _ _ c.requires.2)))
+returns-clause-cost g c = record {
+  grows = omega (arith, c.multiples_of_row.ensures.grows);
+  cost =
+      twice_counted _ _ _ _ c.multiples_of_row.ensures.cost (c.requires.1
+      ∙ ap (λ v. c.args.self.now.copies * v)
+      (sym (ap length c.chunk-row.ensures ∙ part_size c.args.self.now.rows.now _ _ c.requires.2)));
+}

@@ -1,5 +1,5 @@
 use Rattle.std.proofs.Common.{◌≡◌, ℕ, suc, refl, ◌+◌, ◌-◌, ◌*◌, ◌/◌, ◌^◌, ◌<◌, ◌≤◌, length, get_or, sym, ap, ◌∙◌, subst}
-use Rattle.std.proofs.Common.{arith, add-sub_of_le, add-zero, le_refl, le_trans, lt_of_le_of_lt, mul-le-mul_right}
+use Rattle.std.proofs.Common.{arith, add-sub_of_le, add-zero, le_refl, lt_of_le_of_lt, mul-le-mul_right}
 use Rattle.std.proofs.Common.{sub-le}
 use Rattle.p3_field.specs.Ring.{power}
 use Rattle.p3_networks.specs.Layers.{HoldsCells}
@@ -25,9 +25,6 @@ copies_within : (tile count copies rows len : ℕ) → count * copies ≡ rows �
 copies_within tile count copies rows len is room =
     let all : (tile * count + count) * copies ≡ (tile + 1) * (count * copies) = omega arith in
     omega (arith, all, ap (λ n. (tile + 1) * n) is, room)
-
-halved : (n m : ℕ) → 2 * n ≤ 2 * m → n ≤ m
-halved n m twice = omega (arith, twice)
 
 -- the products of the copies and of the layers
 copies_counted : (layers n len out before middle after : ℕ) → out ≡ len → len ≡ n → middle ≤ before + n
@@ -100,6 +97,7 @@ layers_of_chunk-requires-clause-chunk g c =
 pub layers_of_chunk-requires-clause-first : goal.layers_of_chunk-requires-clause-first
 layers_of_chunk-requires-clause-first g c = c.requires.1.1.1.1
 
+-- The rows of the tile, spread, are the cells at its first layer: each entry is one that was asked of all. Its layers lead on from there.
 pub returns : goal.returns
 returns g c =
     let field = g.F.Valued in
@@ -135,6 +133,8 @@ returns g c =
           made (2 ^ a) q t j) (sym sizes.count_is) are))
           (λ q t j below copy column. ap field.value (sym (row_at field.zero size copies w q t j out size_is copy
           column)) ∙ c.on_each_chunk.ensures.chunks q below t j copy column)))));
-      grows = le_trans c.on_each_chunk.ensures.grows (halved _ _ c.layers_of_chunk.ensures.cost.grows);
-      cost = copies_counted (r - a) (count * size) _ _ _ _ _ len cells_all made_all c.layers_of_chunk.ensures.cost.cost;
+      cost = record {
+        grows = omega (arith, made_all.grows, c.layers_of_chunk.ensures.cost.grows);
+        cost = copies_counted (r - a) (count * size) _ _ _ _ _ len cells_all made_all.cost c.layers_of_chunk.ensures.cost.cost;
+      };
     }

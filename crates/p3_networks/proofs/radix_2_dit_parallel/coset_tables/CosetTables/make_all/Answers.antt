@@ -97,6 +97,7 @@ returns-in_err-place-clause-succeeds g c all =
     absurd (false≢true (c.in_err-place.ensures.succeeds
     (coset_there field _ _ k _ _ (c.loop-slot.invariant.once all) c.slot_shift-coset.ensures (all (rev a c.loop-slot.slot) (rev-lt a c.loop-slot.slot)))))
 
+-- One slot more has its table: those that were there stay, and at most one is added, of that slot's coset, if there was none.
 pub loop-slot-preserved : goal.loop-slot-preserved
 loop-slot-preserved g c =
     let field = g.F.Valued in

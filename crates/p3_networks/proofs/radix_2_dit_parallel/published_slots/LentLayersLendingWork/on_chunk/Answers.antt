@@ -1,7 +1,7 @@
-use Rattle.std.proofs.Common.{◌≡◌, ◌+◌, ◌*◌, ◌<◌, ◌≤◌, ◌^◌, ℕ, Fits, Fits-le, w64, le-add_left, length, ap, ◌∙◌, subst, arith}
+use Rattle.std.proofs.Common.{◌≡◌, ◌+◌, ◌*◌, ◌<◌, ◌^◌, ℕ, Fits, Fits-le, w64, le-add_left, length, ap, ◌∙◌, subst, arith}
 use Rattle.std.proofs.Math.Nat.{mul-div_cancel}
 use Rattle.p3_matrix.specs.RowMajor.{RowMajor}
-use Rattle.p3_networks.specs.Counts.{RisesAtMost}
+use Rattle.p3_networks.proofs.Layers.Counts.{rises_halved}
 use Rattle.p3_networks.proofs.Layers.Shifts.{one_shifted}
 use Rattle.p3_networks.proofs.Layers.Sizes.{second_shift}
 use Rattle.p3_networks.proofs.Rows.Lent.{lent_once}
@@ -12,9 +12,6 @@ use Rattle.p3_networks.proofs.radix_2_dit_parallel.published_slots.LentLayersLen
 rows_fit : (first mid left chunk : ℕ) → mid + left < 64 → first + 2 ^ (mid + left) < 2 ^ 64 → chunk < 2 ^ mid → Fits w64 (first + chunk * one_shifted left)
 rows_fit first mid left chunk small numbers below =
     rw (second_shift mid left small) (record { fits = omega (arith, numbers, blocks_within chunk mid left below) })
-
-halved : (n before after : ℕ) → before ≤ after → 2 * after ≤ 2 * before + 2 * n → RisesAtMost n before after
-halved n before after grows twice = record { grows = grows; cost = omega (arith, twice) }
 
 pub overflow_mul-row : goal.overflow_mul-row
 overflow_mul-row g c =
@@ -45,4 +42,4 @@ returns-clause-lent g c =
     c.new-block.ensures c.consume.ensures)
 
 pub returns-clause-cost : goal.returns-clause-cost
-returns-clause-cost g c = halved _ _ _ c.on_chunk.ensures.grows c.on_chunk.ensures.cost
+returns-clause-cost g c = rises_halved _ _ _ c.on_chunk.ensures.cost
