@@ -97,7 +97,8 @@ impl<F: TwoAdicField> ChunkWork<F> for OtherSlots<'_, F> {
     fn on_chunk(&self, number: usize, chunk: &mut [F], products: &mut Products) {
         let width = self.width;
         let log_h = self.log_h;
-        let shift = slot_shift(log_h, self.added_bits, self.shift, number + 1);
+        let slot = number + 1;
+        let shift = slot_shift(log_h, self.added_bits, self.shift, slot);
         copy_shifted(self.coefficients, chunk, width, 1 << log_h, shift, products);
         evaluate_to_reversed(self.twiddles, chunk, width, self.tiling, log_h, products);
     }

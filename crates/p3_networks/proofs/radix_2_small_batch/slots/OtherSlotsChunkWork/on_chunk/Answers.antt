@@ -4,8 +4,8 @@ use Rattle.p3_networks.proofs.Networks.Slots.{slot_number, slot_of_shifted}
 use Rattle.p3_networks.proofs.Tables.RootPowers.{fewer_roots}
 use Rattle.p3_networks.proofs.radix_2_small_batch.slots.OtherSlotsChunkWork.on_chunk.Goals as goal
 
-pub overflow_add-number : goal.overflow_add-number
-overflow_add-number g c = slot_number c.requires.0
+pub overflow_add-slot : goal.overflow_add-slot
+overflow_add-slot g c = slot_number c.requires.0
 
 pub copy_shifted-requires-clause-source : goal.copy_shifted-requires-clause-source
 copy_shifted-requires-clause-source g c =
