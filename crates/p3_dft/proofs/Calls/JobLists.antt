@@ -8,7 +8,7 @@ use Rattle.std.proofs.lemmas.Slice.Zip.{AllZip-long, all_zipped_more}
 use Rattle.std.specs.List.{All, AllZip, sum}
 use Rattle.p3_field.specs.declared.fields.Valued.{Ghosts as FieldMembers}
 use Rattle.p3_matrix.specs.RowMajor.{RowMajor}
-use Rattle.p3_matrix.proofs.TwoPowers.{log_same}
+use Rattle.p3_dft.proofs.Calls.Stored.{at_log}
 use Rattle.p3_dft.specs.Engines.{EngineFacts, IsLater}
 use Rattle.p3_dft.specs.Jobs.{AreFirstAnswers, CanRun, IsAnswer, IsCost, IsPromised, IsPreparedFor, NextIsNotPromised}
 use Rattle.p3_dft.specs.declared.jobs.Job.{Job}
@@ -57,33 +57,13 @@ module _ {E F : Type 0} (facts : EngineFacts E F) where
 
   -- a job that can be run has a cost
   cost_of : (f : FieldMembers F) (bits : ℕ) (job : Job F) → CanRun f bits job → (n : ℕ) × IsCost facts job n
-  cost_of f bits (Dft m) fits = (
-    facts.transform_products fits.log m.width,
-    λ k high. ap (λ l. facts.transform_products l m.width) (log_same fits.log k (sym fits.height ∙ high)),
-  )
-  cost_of f bits (CosetDft m s) fits = (
-    facts.transform_products fits.log m.width + 2 ^ fits.log * m.width,
-    λ k high. ap (λ l. facts.transform_products l m.width + 2 ^ l * m.width)
-        (log_same fits.log k (sym fits.height ∙ high)),
-  )
-  cost_of f bits (Idft m) fits = (
-    facts.transform_products fits.log m.width + 2 ^ fits.log * m.width,
-    λ k high. ap (λ l. facts.transform_products l m.width + 2 ^ l * m.width)
-        (log_same fits.log k (sym fits.height ∙ high)),
-  )
-  cost_of f bits (CosetIdft m s) (fits, invertible) = (
-    facts.transform_products fits.log m.width + 2 * (2 ^ fits.log * m.width),
-    λ k high. ap (λ l. facts.transform_products l m.width + 2 * (2 ^ l * m.width))
-        (log_same fits.log k (sym fits.height ∙ high)),
-  )
-  cost_of f bits (Lde m a) fits = (
-    facts.extension_products fits.log a m.width,
-    λ k high. ap (λ l. facts.extension_products l a m.width) (log_same fits.log k (sym fits.height ∙ high)),
-  )
-  cost_of f bits (CosetLde m a s) fits = (
-    facts.extension_products fits.log a m.width,
-    λ k high. ap (λ l. facts.extension_products l a m.width) (log_same fits.log k (sym fits.height ∙ high)),
-  )
+  cost_of f bits (Dft m) fits = (facts.transform_products fits.log m.width, at_log _ _ fits.log fits.height refl)
+  cost_of f bits (CosetDft m s) fits = (facts.transform_products fits.log m.width + 2 ^ fits.log * m.width, at_log _ _ fits.log fits.height refl)
+  cost_of f bits (Idft m) fits = (facts.transform_products fits.log m.width + 2 ^ fits.log * m.width, at_log _ _ fits.log fits.height refl)
+  cost_of f bits (CosetIdft m s) (fits, invertible) =
+      (facts.transform_products fits.log m.width + 2 * (2 ^ fits.log * m.width), at_log _ _ fits.log fits.height refl)
+  cost_of f bits (Lde m a) fits = (facts.extension_products fits.log a m.width, at_log _ _ fits.log fits.height refl)
+  cost_of f bits (CosetLde m a s) fits = (facts.extension_products fits.log a m.width, at_log _ _ fits.log fits.height refl)
 
   -- no job, and one more, that made no more than its cost
   pub costs_none : (none : List (Job F)) (before : ℕ) → none ≡ [] → (costs : List ℕ) × AllZip (IsCost facts) none costs × (before ≤ before + sum costs)

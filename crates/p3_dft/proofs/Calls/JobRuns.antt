@@ -1,15 +1,15 @@
 -- What the call for a job answers, and what it leaves of the engine.
-use Rattle.std.proofs.Common.{◌≡◌, ℕ, ◌≤◌, inl, inr, List, length, get_or, Result, Ok, Err, IfErr, IfOk, IsOk, IsErr}
+use Rattle.std.proofs.Common.{◌≡◌, ℕ, ◌^◌, ◌≤◌, inl, inr, List, length, get_or, Result, Ok, Err, IfErr, IfOk, IsOk, IsErr}
 use Rattle.std.proofs.Common.{IsErrAnd, refl, sym, ap, ◌∙◌, subst, arith, le_refl}
 use Rattle.std.proofs.lemmas.Result.{IfErr-at_err, IfOk-at_ok, IfOk-from_err}
 use Rattle.p3_field.specs.declared.fields.Valued.{Ghosts as FieldMembers}
 use Rattle.p3_matrix.specs.declared.error.DftError.{DftError}
 use Rattle.p3_matrix.specs.RowMajor.{RowMajor, height}
-use Rattle.p3_dft.specs.Engines.{AfterDft, AfterLde, AtLog, EngineFacts}
+use Rattle.p3_dft.specs.Engines.{AfterDft, AfterLde, AtLog, EngineFacts, IsAfter}
 use Rattle.p3_dft.specs.Extensions.{IsExtension}
 use Rattle.p3_matrix.specs.Room.{IsWithin, IsWithinEither}
 use Rattle.p3_matrix.proofs.Rooms.{either_of, within_more}
-use Rattle.p3_dft.specs.Jobs.{CanRun, IsAnswer, IsPreparedFor, IsRun, RanOut, answer_entries}
+use Rattle.p3_dft.specs.Jobs.{CanRun, IsAnswer, IsCost, IsPreparedFor, IsPromised, IsRun, RanOut, answer_entries}
 use Rattle.p3_dft.specs.Shapes.{FitsDft, FitsLde}
 use Rattle.p3_dft.specs.Transforms.{IsInterpolation, IsTransform}
 use Rattle.p3_dft.specs.declared.jobs.Job.{Job}
@@ -17,52 +17,49 @@ use Rattle.p3_dft.specs.declared.jobs.Job.TheVariants.{Dft, CosetDft, Idft, Cose
 use Rattle.p3_dft.proofs.Calls.EngineSteps.{where_ok}
 use Rattle.p3_dft.proofs.Calls.PreparedHeights.{not_ok}
 
-module _ {E F : Type 0} (facts : EngineFacts E F) (bytes : ℕ) (f : FieldMembers F) (generator : ℕ → F) where
-  module _ {V : Type 0} (bits : ℕ) (job : Job F) (m : RowMajor F) (natural : V → RowMajor F) (a b : E) (r : Result V DftError) (runs : CanRun f bits job) where
+module _ {E F : Type 0} {facts : EngineFacts E F} {bytes : ℕ} {f : FieldMembers F} {generator : ℕ → F} where
+  -- a call on 2 ^ k rows that answers a job
+  run_of : {V : Type 0} {h k tables : ℕ} {known : ℕ → Type 0} {p : ℕ → ℕ} {job : Job F} {natural : V → RowMajor F}
+      {a b : E} {r : Result V DftError} (asked : Job F)
+      → job ≡ asked → h ≡ 2 ^ k → IfOk r (λ v. IsAnswer f generator asked (natural v)) → (IsPromised facts a asked → IsOk r)
+      → IsAfter facts bytes a b r h known p (answer_entries asked) tables → (AtLog h known → IsPreparedFor facts b asked)
+      → ((n : ℕ) → IsCost facts asked n → p k ≤ n) → IsRun facts bytes f generator job natural a b r
+  run_of {k = k} {natural = natural} {a = a} {b = b} {r = r} asked is high values promised call ready bound =
+      let made = call.cost k high in
+      subst (λ (j : Job F). IsRun facts bytes f generator j natural a b r) (sym is) (record {
+        answer = values;
+        succeeds = promised;
+        prepares = where_ok r (λ ok. ready (call.prepared ok));
+        cost = λ n cost. let most = bound n cost in omega (arith, made, most);
+        later = call.later;
+        room = call.refused;
+      })
+
+  module _ {V : Type 0} {job : Job F} {m : RowMajor F} {natural : V → RowMajor F} {a b : E} {r : Result V DftError} (bits : ℕ)
+      (runs : CanRun f bits job) where
     pub dft_run : job ≡ Dft m → IfOk r (λ v. IsTransform f generator m f.ring.one (natural v))
         → AtLog (height m) (λ k. facts.Succeeds a k → IsOk r) → AfterDft facts bytes a b r m 0
         → IsRun facts bytes f generator job natural a b r
     dft_run is values promised call =
         let fits : FitsDft bits (height m) m.width = subst (CanRun f bits) is runs in
-        let made = call.cost fits.log fits.height in
-        subst (λ (j : Job F). IsRun facts bytes f generator j natural a b r) (sym is) (record {
-          answer = values;
-          succeeds = λ p. promised p.0 p.1 p.2;
-          prepares = where_ok r call.prepared;
-          cost = λ n asked. let same = asked fits.log fits.height in omega (arith, made, same);
-          later = call.later;
-          room = call.refused;
-        })
+        run_of (Dft m) is fits.height values (λ p. promised p.0 p.1 p.2) call (λ ready. ready)
+        (λ n cost. let same = cost fits.log fits.height in omega (arith, same))
 
     pub coset_dft_run : (s : F) → job ≡ CosetDft m s → IfOk r (λ v. IsTransform f generator m (f.value s) (natural v))
         → AtLog (height m) (λ k. facts.Succeeds a k → facts.SucceedsOnCoset a k s → IsOk r)
         → AfterDft facts bytes a b r m 1 → IsRun facts bytes f generator job natural a b r
     coset_dft_run s is values promised call =
         let fits : FitsDft bits (height m) m.width = subst (CanRun f bits) is runs in
-        let made = call.cost fits.log fits.height in
-        subst (λ (j : Job F). IsRun facts bytes f generator j natural a b r) (sym is) (record {
-          answer = values;
-          succeeds = λ p. promised p.0 p.1 p.2 p.3;
-          prepares = where_ok r call.prepared;
-          cost = λ n asked. let same = asked fits.log fits.height in omega (arith, made, same);
-          later = call.later;
-          room = call.refused;
-        })
+        run_of (CosetDft m s) is fits.height values (λ p. promised p.0 p.1 p.2 p.3) call (λ ready. ready)
+        (λ n cost. let same = cost fits.log fits.height in omega (arith, same))
 
     pub idft_run : job ≡ Idft m → IfOk r (λ v. IsInterpolation f generator m f.ring.one (natural v))
         → AtLog (height m) (λ k. facts.Succeeds a k → IsOk r) → AfterDft facts bytes a b r m 1
         → IsRun facts bytes f generator job natural a b r
     idft_run is values promised call =
         let fits : FitsDft bits (height m) m.width = subst (CanRun f bits) is runs in
-        let made = call.cost fits.log fits.height in
-        subst (λ (j : Job F). IsRun facts bytes f generator j natural a b r) (sym is) (record {
-          answer = values;
-          succeeds = λ p. promised p.0 p.1 p.2;
-          prepares = where_ok r call.prepared;
-          cost = λ n asked. let same = asked fits.log fits.height in omega (arith, made, same);
-          later = call.later;
-          room = call.refused;
-        })
+        run_of (Idft m) is fits.height values (λ p. promised p.0 p.1 p.2) call (λ ready. ready)
+        (λ n cost. let same = cost fits.log fits.height in omega (arith, same))
 
     pub coset_idft_run : (s : F) → job ≡ CosetIdft m s
         → IfOk r (λ v. IsInterpolation f generator m (f.value s) (natural v))
@@ -70,51 +67,30 @@ module _ {E F : Type 0} (facts : EngineFacts E F) (bytes : ℕ) (f : FieldMember
         → IsRun facts bytes f generator job natural a b r
     coset_idft_run s is values promised call =
         let fits : FitsDft bits (height m) m.width = (subst (CanRun f bits) is runs).0 in
-        let made = call.cost fits.log fits.height in
-        subst (λ (j : Job F). IsRun facts bytes f generator j natural a b r) (sym is) (record {
-          answer = values;
-          succeeds = λ p. promised p.0 p.1 p.2;
-          prepares = where_ok r call.prepared;
-          cost = λ n asked. let same = asked fits.log fits.height in omega (arith, made, same);
-          later = call.later;
-          room = call.refused;
-        })
+        run_of (CosetIdft m s) is fits.height values (λ p. promised p.0 p.1 p.2) call (λ ready. ready)
+        (λ n cost. let same = cost fits.log fits.height in omega (arith, same))
 
     pub lde_run : (added : ℕ) → job ≡ Lde m added → IfOk r (λ v. IsExtension f generator m added f.ring.one (natural v))
         → AfterLde facts bytes a b r m added → IsRun facts bytes f generator job natural a b r
     lde_run added is values call =
         let fits : FitsLde bits (height m) m.width added = subst (CanRun f bits) is runs in
-        let made = call.cost fits.log fits.height in
-        subst (λ (j : Job F). IsRun facts bytes f generator j natural a b r) (sym is) (record {
-          answer = values;
-          succeeds = λ p. absurd p;
-          prepares = where_ok r call.prepared;
-          cost = λ n asked. let same = asked fits.log fits.height in omega (arith, made, same);
-          later = call.later;
-          room = call.refused;
-        })
+        run_of (Lde m added) is fits.height values (λ p. absurd p) call (λ ready. ready)
+        (λ n cost. let same = cost fits.log fits.height in omega (arith, same))
 
     pub coset_lde_run : (added : ℕ) (s : F) → job ≡ CosetLde m added s
         → IfOk r (λ v. IsExtension f generator m added (f.value s) (natural v)) → AfterLde facts bytes a b r m added
         → IsRun facts bytes f generator job natural a b r
     coset_lde_run added s is values call =
         let fits : FitsLde bits (height m) m.width added = subst (CanRun f bits) is runs in
-        let made = call.cost fits.log fits.height in
-        subst (λ (j : Job F). IsRun facts bytes f generator j natural a b r) (sym is) (record {
-          answer = values;
-          succeeds = λ p. absurd p;
-          prepares = where_ok r call.prepared;
-          cost = λ n asked. let same = asked fits.log fits.height in omega (arith, made, same);
-          later = call.later;
-          room = call.refused;
-        })
+        run_of (CosetLde m added s) is fits.height values (λ p. absurd p) call (λ ready. ready)
+        (λ n cost. let same = cost fits.log fits.height in omega (arith, same))
 
   -- where memory was refused, any other error says the same
-  pub run_refused : {V W : Type 0} {natural : V → RowMajor F} (job : Job F) (stored : W → RowMajor F) (a b : E)
-      (r : Result V DftError) (e : DftError) (s : Result W DftError)
+  pub run_refused : {V W : Type 0} {natural : V → RowMajor F} {job : Job F} {stored : W → RowMajor F} {a b : E}
+      {r : Result V DftError} {e : DftError} {s : Result W DftError}
       → r ≡ Err e → IsErr s × IsErrAnd s (λ y. y ≡ e)
       → IsRun facts bytes f generator job natural a b r → IsRun facts bytes f generator job stored a b s
-  run_refused job stored a b r e s was (err, same) run = record {
+  run_refused {job = job} {b = b} {r = r} {e = e} {s = s} was (err, same) run = record {
     room =
         either_of bytes bytes (answer_entries job) (answer_entries job) (le_refl _) (le_refl _) facts.table_bytes
         (facts.tables b) (facts.tables b) (le_refl _) s e (err, same) (IfErr-at_err _ was run.room);
@@ -126,11 +102,11 @@ module _ {E F : Type 0} (facts : EngineFacts E F) (bytes : ℕ) (f : FieldMember
   }
 
   -- an answer, as it is stored
-  pub run_stored : {V : Type 0} {natural : V → RowMajor F} (job : Job F) (a b c : E) (r : Result V DftError) (v w : V)
-      (out : RowMajor F)
+  pub run_stored : {V : Type 0} {natural : V → RowMajor F} {job : Job F} {a b c : E} {r : Result V DftError} {v w : V}
+      {out : RowMajor F}
       → r ≡ Ok v → c ≡ b → w ≡ v → out ≡ natural w
       → IsRun facts bytes f generator job natural a b r → IsRun facts bytes f generator job (λ o. o) a c (Ok out)
-  run_stored {natural = natural} job a b c r v w out was engine same stored run =
+  run_stored {natural = natural} {job = job} {a = a} {b = b} {out = out} was engine same stored run =
       subst (λ (e : E). IsRun facts bytes f generator job (λ o. o) a e (Ok out)) (sym engine) (record {
         answer =
             subst (λ (o : RowMajor F). IsAnswer f generator job o) (sym (stored ∙ ap natural same))

@@ -94,6 +94,8 @@ returns-in_err-reserve_exact g c =
           (room_for_all _ _ _ _ empty c.len.ensures c.args.jobs.ok.0) c.in_err-reserve_exact.ensures.room;
     }
 
+-- A job was refused: the answers so far are those of the jobs before it, and its call made no more products than it costs.
+-- The jobs that were not run have costs too, so that the bound for all holds.
 pub returns-in_err-answer : goal.returns-in_err-answer
 returns-in_err-answer g c =
     let err = c.from_residual-in_err-answer.ensures.0 in
