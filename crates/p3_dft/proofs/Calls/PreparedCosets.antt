@@ -48,12 +48,13 @@ module _ {F : Type 0} (f : FieldMembers F) where
   prepared_coset_stays before after heights cosets k s (inr (inr (other, has))) = inr (inr (other, cosets k (f.value s) has))
 
   -- no power, no table and no product is lost
-  pub later_with_tables : (bytes : ℕ) (t : ℕ → ℕ → ℕ) (x : ℕ → ℕ → ℕ → ℕ) (b : ℕ → ℕ → ℕ) (before : CosetEngineState F)
-      (log more_log products more_products : ℕ) (cosets more_cosets : List (Coset F))
+  pub later_with_tables : {bytes : ℕ} {t : ℕ → ℕ → ℕ} {x : ℕ → ℕ → ℕ → ℕ} {b : ℕ → ℕ → ℕ} {before : CosetEngineState F}
+      {log more_log products more_products : ℕ} {cosets more_cosets : List (Coset F)}
       → tabled log products cosets ≡ before → log ≤ more_log
       → ((k : ℕ) (s : f.Element) → HasCoset f cosets k s → HasCoset f more_cosets k s) → products ≤ more_products
       → IsLater (coset_tabled_facts f bytes t x b) before (tabled more_log more_products more_cosets)
-  later_with_tables bytes t x b before log more_log products more_products cosets more_cosets is higher stays grows =
+  later_with_tables {bytes = bytes} {t = t} {x = x} {b = b} {log = log} {more_log = more_log} {products = products}
+      {more_products = more_products} {cosets = cosets} {more_cosets = more_cosets} is higher stays grows =
       let still : (k : ℕ) → k ≤ log → k ≤ more_log = λ k there. omega (arith, there, higher) in
       subst (λ (e : CosetEngineState F). IsLater (coset_tabled_facts f bytes t x b) e (tabled more_log more_products more_cosets)) is (record {
         keeps = still;

@@ -28,12 +28,12 @@ tabled_facts transform_products extension_products block_rows = record {
   table_bytes = 0;
 }
 
-module _ {F : Type 0} (t : ℕ → ℕ → ℕ) (x : ℕ → ℕ → ℕ → ℕ) (b : ℕ → ℕ → ℕ) where
+module _ {F : Type 0} {t : ℕ → ℕ → ℕ} {x : ℕ → ℕ → ℕ → ℕ} {b : ℕ → ℕ → ℕ} where
   -- no height and no product is lost
-  pub later_with_heights : (before : EngineState) (log more_log products more_products : ℕ)
+  pub later_with_heights : {before : EngineState} {log more_log products more_products : ℕ}
       → up_to log products ≡ before → log ≤ more_log → products ≤ more_products
       → IsLater (tabled_facts {F = F} t x b) before (up_to more_log more_products)
-  later_with_heights before log more_log products more_products is higher grows =
+  later_with_heights {log = log} {more_log = more_log} {more_products = more_products} is higher grows =
       let still : (k : ℕ) → k ≤ log → k ≤ more_log = λ k there. omega (arith, there, higher) in
       subst (λ (e : EngineState). IsLater (tabled_facts {F = F} t x b) e (up_to more_log more_products)) is (record {
         keeps = still;
@@ -44,17 +44,17 @@ module _ {F : Type 0} (t : ℕ → ℕ → ℕ) (x : ℕ → ℕ → ℕ → ℕ
 
   -- memory for its tables was refused to a call of 2 ^ k rows, before a product was made
   pub tables_refused : {bytes : ℕ} {A : Type 0} {log more_log products h w n : ℕ} {known : ℕ → Type 0} {p : ℕ → ℕ}
-      (k a : ℕ) (e : DftError) (r : Result A DftError)
+      {r : Result A DftError} (k a : ℕ) (e : DftError)
       → IsErr r × IsErrAnd r (λ y. y ≡ e) → log ≤ more_log → 1 ≤ w → h ≡ 2 ^ k → IsWithin bytes (2 ^ (k + a)) e
       → IsAfter (tabled_facts {F = F} t x b) bytes (up_to log products) (up_to more_log products) r h known p (h * w * 2 ^ a) n
-  tables_refused {products = products} k a e r err keeps wide high room =
-      after_error (tabled_facts {F = F} t x b) _ _ r err.0 (later_with_heights _ _ _ _ _ refl keeps (le_refl products)) refl
-      (omega arith) (first_of _ _ _ _ (le_refl _) (extended_table_fits k a wide high) _ _ r e err room)
+  tables_refused {products = products} {r = r} k a e err keeps wide high room =
+      after_error err.0 (later_with_heights refl keeps (le_refl products)) refl (omega arith)
+      (first_of _ _ _ _ (le_refl _) (extended_table_fits k a wide high) _ _ r e err room)
 
   -- products that were counted
-  pub counted_with_heights : (before : EngineState) (log products more_products n : ℕ) → up_to log products ≡ before → more_products ≡ products + n
+  pub counted_with_heights : {before : EngineState} {log products more_products n : ℕ} → up_to log products ≡ before → more_products ≡ products + n
       → HasProductsMore (tabled_facts {F = F} t x b) before (up_to log more_products) n
-  counted_with_heights before log products more_products n is counted =
+  counted_with_heights {log = log} {more_products = more_products} {n = n} is counted =
       subst (λ (e : EngineState). HasProductsMore (tabled_facts {F = F} t x b) e (up_to log more_products) n) is (record {
         counter = counted;
         same = λ k. (λ there. there, λ there. there);
@@ -69,14 +69,14 @@ held_where (Ok x) before after k made ok = omega (arith, made)
 held_where (Err e) before after k made ok = search rules
 
 -- after a call that `on_prepared` made
-pub after_prepared : {bytes : ℕ} {F A T : Type 0} {log more_log products more_products : ℕ} (t : ℕ → ℕ → ℕ)
-    (x : ℕ → ℕ → ℕ → ℕ) (b : ℕ → ℕ → ℕ) (m : RowMajor T) (more : ℕ) (r : Result A DftError)
+pub after_prepared : {bytes : ℕ} {F A T : Type 0} {log more_log products more_products : ℕ} {t : ℕ → ℕ → ℕ}
+    {x : ℕ → ℕ → ℕ → ℕ} {b : ℕ → ℕ → ℕ} {r : Result A DftError} (m : RowMajor T) (more : ℕ)
     → log ≤ more_log → products ≤ more_products → AtLog (height m) (λ k. OnOk r (more_log ≡ max log k))
     → AtLog (height m) (λ k. more_products ≤ products + (t k m.width + more * (2 ^ k * m.width))) → IfErr r (IsWithin bytes (height m * m.width))
     → AfterDft (tabled_facts {F = F} t x b) bytes (up_to log products) (up_to more_log more_products) r m more
-after_prepared {bytes = bytes} {log = log} {more_log = more_log} t x b m more r keeps grows made cost room =
+after_prepared {bytes = bytes} {r = r} m more keeps grows made cost room =
     record {
-      later = later_with_heights t x b _ _ _ _ _ refl keeps grows;
+      later = later_with_heights refl keeps grows;
       prepared = λ done k high. held_where r _ _ k (made k high) done;
       cost = cost;
       tables = omega arith;

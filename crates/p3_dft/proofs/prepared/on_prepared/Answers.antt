@@ -1,5 +1,4 @@
-use Rattle.std.proofs.Common.{sym, ap, ◌∙◌, arith}
-use Rattle.p3_matrix.specs.RowMajor.{height}
+use Rattle.std.proofs.Common.{sym, ◌∙◌, arith}
 use Rattle.p3_dft.proofs.Calls.PreparedHeights.{not_ok}
 use Rattle.p3_dft.proofs.Calls.Stored.{at_log}
 use Rattle.p3_dft.proofs.prepared.on_prepared.Goals as goal

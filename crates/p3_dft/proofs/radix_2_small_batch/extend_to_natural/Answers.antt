@@ -10,6 +10,8 @@ use Rattle.p3_networks.proofs.Layers.Counts.{extension_counted}
 use Rattle.p3_matrix.proofs.Rows.Overwritten.{written}
 use Rattle.p3_matrix.proofs.Rooms.{room_of}
 use Rattle.p3_dft.proofs.Calls.Shapes.{extended_entries, fewer_entries, powers_fit}
+use Rattle.p3_dft.proofs.radix_2_small_batch.extend_to_natural.Given as given
+use Rattle.p3_dft.proofs.radix_2_small_batch.extend_to_natural.Goals.{In_ok-extend_by_zeros}
 use Rattle.p3_dft.proofs.radix_2_small_batch.extend_to_natural.Goals as goal
 
 -- as many zeros as the extension has entries
@@ -28,24 +30,25 @@ full_rows xs ys w h same wide full =
     let size : length xs ≡ h * w = ap length same ∙ full in
     ap (λ n. n / w * w) size ∙ ap (λ n. n * w) (mul-div_cancel h wide) ∙ sym size
 
-pub extending_network-requires-clause-size : goal.extending_network-requires-clause-size
-extending_network-requires-clause-size g c =
-    ap length c.as_mut_slice.ensures.value
-    ∙ zeros_length g.F.Valued.zero c.new-values.result.items c.extend_by_zeros.new.values.items c.values.result.now
+-- the vector has as many zeros as the extension has entries
+entries : (g : given.Over) (c : In_ok-extend_by_zeros g)
+    → length c.extend_by_zeros.new.values.items ≡ 2 ^ (c.args.log_h + c.args.added_bits) * c.width-width.result
+entries g c =
+    zeros_length g.F.Valued.zero c.new-values.result.items c.extend_by_zeros.new.values.items c.values.result.now
     c.args.mat.values _ _ c.args.mat.width c.width-width.result c.args.log_h c.args.added_bits
     c.new-values.ensures.items c.in_ok-extend_by_zeros.ensures.ok refl c.values.ensures.values c.requires.rows.whole.full
     c.requires.rows.height c.width-width.ensures.width c.requires.size
+
+pub extending_network-requires-clause-size : goal.extending_network-requires-clause-size
+extending_network-requires-clause-size g c =
+    ap length c.as_mut_slice.ensures.value ∙ entries g (goal.at.extending_network-requires-clause-size g c).In_ok-extend_by_zeros
 
 pub new-requires-clause-full : goal.new-requires-clause-full
 new-requires-clause-full g c =
     let w = c.width-width.result in
     let rows = 2 ^ (c.args.log_h + c.args.added_bits) in
     let items = c.extend_by_zeros.new.values.items in
-    let size : length items ≡ rows * w =
-    zeros_length g.F.Valued.zero c.new-values.result.items c.extend_by_zeros.new.values.items c.values.result.now
-    c.args.mat.values _ _ c.args.mat.width c.width-width.result c.args.log_h c.args.added_bits
-    c.new-values.ensures.items c.in_ok-extend_by_zeros.ensures.ok refl c.values.ensures.values c.requires.rows.whole.full
-    c.requires.rows.height c.width-width.ensures.width c.requires.size in
+    let size = entries g (goal.at.new-requires-clause-full g c).In_ok-extend_by_zeros in
     let len : length c.extending_network.new.values ≡ length items = c.extending_network.auto.values ∙ ap length c.as_mut_slice.ensures.value in
     full_rows _ c.extending_network.new.values w rows
     (written c.extend_by_zeros.new.values.len c.extending_network.new.values
@@ -76,6 +79,8 @@ returns-in_err-weights-clause-room g c =
     (omega (arith, table, fewer_entries (height c.args.mat * c.args.mat.width) c.args.added_bits))
     c.in_err-weights.ensures.room
 
+-- The vector of zeros has as many entries as the extension; the network writes into each the value of the weighted
+-- coefficients at its point. The products are those of its layers, counted for each slot.
 pub returns : goal.returns
 returns g c =
     let field = g.F.Valued in
@@ -84,11 +89,7 @@ returns g c =
     let a = c.args.added_bits in
     let items = c.extend_by_zeros.new.values.items in
     let after = c.extending_network.new.values in
-    let size : length items ≡ 2 ^ (k + a) * w =
-    zeros_length field.zero c.new-values.result.items items c.values.result.now c.args.mat.values _ _
-    c.args.mat.width w k a
-    c.new-values.ensures.items c.in_ok-extend_by_zeros.ensures.ok refl c.values.ensures.values c.requires.rows.whole.full
-    c.requires.rows.height c.width-width.ensures.width c.requires.size in
+    let size = entries g (goal.at.returns g c).In_ok-extend_by_zeros in
     let len : length after ≡ length items = c.extending_network.auto.values ∙ ap length c.as_mut_slice.ensures.value in
     record {
       values =

@@ -83,7 +83,7 @@ returns-then-height-eq1-clause-one_row g c same = (
 )
 
 pub returns-then-height-eq1-clause-engine : goal.returns-then-height-eq1-clause-engine
-returns-then-height-eq1-clause-engine g c = after_none _ _ (λ done k high. tt)
+returns-then-height-eq1-clause-engine g c = after_none (λ done k high. tt)
 
 pub evaluate_on_coset_to_reversed-requires-clause-table : goal.evaluate_on_coset_to_reversed-requires-clause-table
 evaluate_on_coset_to_reversed-requires-clause-table g c =
@@ -119,7 +119,7 @@ returns-in_err-place g c = rw (← c.self.view_is, ← c.into_row_major_matrix-m
       one_row = λ one. absurd (c.if-height-eq1.false (c.height.ensures.height ∙ one));
       engine = record {
         later =
-            later_with_tables field _ _ _ _ _ _ _ _ _ _ _ refl (le_refl _) (coset_stays field _ _ _ c.make.ensures.only) (le_refl _);
+            later_with_tables field refl (le_refl _) (coset_stays field _ _ _ c.make.ensures.only) (le_refl _);
         prepared = λ done k e. tt;
         cost = λ k e. le-add_right _ _;
         tables = omega (arith, ap length kept);
@@ -166,7 +166,7 @@ returns g c = rw (← c.self.view_is, ← c.into_row_major_matrix-mat.ensures) (
       one_row = λ one. absurd (c.if-height-eq1.false (c.height.ensures.height ∙ one));
       engine = record {
         later =
-            later_with_tables field _ _ _ _ _ _ _ _ _ _ _ refl (le_refl _) (coset_stays field _ _ _ c.make.ensures.only)
+            later_with_tables field refl (le_refl _) (coset_stays field _ _ _ c.make.ensures.only)
             c.evaluate_on_coset_to_reversed.ensures.grows;
         prepared = λ done k e. tt;
         cost = at_log _ _ log high (larger_bound _ _ _ _ made (le-add_right _ _));

@@ -55,7 +55,7 @@ returns-in-Err g c = rw (← c.self.view_is, ← c.into_row_major_matrix-mat.ens
       keeps_tables = room.keeps_cosets;
       leaves = room.leaves;
       few_tables = room.few_cosets;
-      later = later_with_tables g.F.Valued _ _ _ _ _ _ _ _ _ _ _ refl room.keeps room.keeps_cosets room.grows;
+      later = later_with_tables g.F.Valued refl room.keeps room.keeps_cosets room.grows;
       cost = λ k high. slots_counted _ _ _ _ _ _ _ _ refl (room.cost k high) (le-add_right _ _);
       room = subst (IsWithinEither _ _ _ _) (sym (one_error _)) c.in-Err.ensures.room;
     })
@@ -93,7 +93,7 @@ returns-in-Err-extended g c = rw (← c.self.view_is, ← c.into_row_major_matri
       leaves = room.leaves;
       few_tables = room.few_cosets;
       later =
-          later_with_tables g.F.Valued _ _ _ _ _ _ _ _ _ _ _ refl room.keeps room.keeps_cosets
+          later_with_tables g.F.Valued refl room.keeps room.keeps_cosets
           (le_trans room.grows c.extend_reversed-extended.ensures.grows);
       cost =
           at_log _ _ log high (slots_counted _ _ _ _ _ _ _ _
@@ -140,7 +140,7 @@ returns g c = rw (← c.self.view_is, ← c.into_row_major_matrix-mat.ensures) (
       leaves = room.leaves;
       few_tables = room.few_cosets;
       later =
-          later_with_tables g.F.Valued _ _ _ _ _ _ _ _ _ _ _ refl room.keeps room.keeps_cosets
+          later_with_tables g.F.Valued refl room.keeps room.keeps_cosets
           (le_trans room.grows c.extend_reversed-extended.ensures.grows);
       cost =
           at_log _ _ log high (slots_counted _ _ _ _ _ _ _ _

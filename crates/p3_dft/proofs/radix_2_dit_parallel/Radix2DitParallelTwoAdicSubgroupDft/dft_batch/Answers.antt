@@ -8,15 +8,13 @@ pub on_prepared-requires-clause-alone : goal.on_prepared-requires-clause-alone
 on_prepared-requires-clause-alone g c whole one = ((refl, refl), λ bits high. row_seen g.F.Valued g.F.TwoAdicField.generator _ _ _ bits whole one refl high)
 
 pub returns-in_err-mat-clause-engine : goal.returns-in_err-mat-clause-engine
-returns-in_err-mat-clause-engine g c = record {
-  later =
-      later_with_tables g.F.Valued _ _ _ _ c.args.self.now _ _ _ _ _ _ c.self.view_is c.on_prepared.ensures.keeps
-      (λ k s has. has) c.on_prepared.ensures.grows;
+returns-in_err-mat-clause-engine g c = rw (← c.self.view_is) (record {
+  later = later_with_tables g.F.Valued refl c.on_prepared.ensures.keeps (λ k s has. has) c.on_prepared.ensures.grows;
   prepared = λ done k high. tt;
-  cost = rw (← c.self.view_is) c.on_prepared.ensures.cost;
-  tables = rw (← c.self.view_is) (le-add_right _ _);
+  cost = c.on_prepared.ensures.cost;
+  tables = le-add_right _ _;
   refused = first_of _ _ _ _ (le_refl _) (le_refl _) _ _ c.from_residual.result _ c.from_residual.ensures c.in_err-mat.ensures.room;
-}
+})
 
 pub returns-clause-values : goal.returns-clause-values
 returns-clause-values g c = rw c.bit_reverse_rows.ensures.matrix (c.in_ok-mat.ensures.answer.1 _ c.bit_reverse_rows.ensures.height)
@@ -35,12 +33,10 @@ returns-clause-one_row g c = rw (← c.self.view_is) (λ one.
     ))
 
 pub returns-clause-engine : goal.returns-clause-engine
-returns-clause-engine g c = record {
-  later =
-      later_with_tables g.F.Valued _ _ _ _ c.args.self.now _ _ _ _ _ _ c.self.view_is c.on_prepared.ensures.keeps
-      (λ k s has. has) c.on_prepared.ensures.grows;
+returns-clause-engine g c = rw (← c.self.view_is) (record {
+  later = later_with_tables g.F.Valued refl c.on_prepared.ensures.keeps (λ k s has. has) c.on_prepared.ensures.grows;
   prepared = λ done k high. tt;
-  cost = rw (← c.self.view_is) c.on_prepared.ensures.cost;
-  tables = rw (← c.self.view_is) (le-add_right _ _);
+  cost = c.on_prepared.ensures.cost;
+  tables = le-add_right _ _;
   refused = tt;
-}
+})

@@ -20,7 +20,7 @@ returns g c = rw (← c.self.view_is) (record {
   one_row = λ one. let (same, kept) = c.on_prepared.ensures.one_row one in (same, ap₂ (λ log products. tabled log products c.self.inside.cosets) kept.0 kept.1);
   cosets = refl;
   engine = record {
-    later = later_with_tables g.F.Valued _ _ _ _ _ _ _ _ _ _ _ refl c.on_prepared.ensures.keeps (λ k s has. has) c.on_prepared.ensures.grows;
+    later = later_with_tables g.F.Valued refl c.on_prepared.ensures.keeps (λ k s has. has) c.on_prepared.ensures.grows;
     prepared = λ done k high. tt;
     cost = c.on_prepared.ensures.cost;
     tables = le-add_right _ _;

@@ -32,6 +32,8 @@ returns-clause-values g c =
     c.extend_slots.new.values _ (c.extend_slots.auto.values ∙ ap length c.values_mut.ensures.values) c.requires.rows.height given)
     c.extend_slots.ensures.values
 
+-- The blocks of all slots are those of the matrix: their number is the height divided by the rows of a block, since both
+-- are powers of two, and a block begins at the same row in either count.
 pub returns-clause-published : goal.returns-clause-published
 returns-clause-published g c =
     let log = c.args.log_h in

@@ -29,6 +29,8 @@ network_to_reversed-requires-clause-high g c l from below =
     layer_there c.args.table.now.log_h _ (omega (arith, c.requires.table, c.requires.rows.fits_u64))
     c.twiddles.ensures.table.size l (omega (arith, c.requires.table, below))
 
+-- The table serves the low half of the layers and the high one, which together are those of the height; what the network
+-- writes into row `rev i` is the value at point i, where each coefficient is multiplied by one.
 pub returns-clause-values : goal.returns-clause-values
 returns-clause-values g c =
     let field = g.F.Valued in

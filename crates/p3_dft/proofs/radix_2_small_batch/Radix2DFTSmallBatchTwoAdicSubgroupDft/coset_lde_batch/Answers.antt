@@ -1,4 +1,4 @@
-use Rattle.std.proofs.Common.{◌≡◌, ◌+◌, ◌^◌, refl, sym, ap, ◌∙◌, arith, le_refl, le_trans, le-add_right}
+use Rattle.std.proofs.Common.{◌≡◌, ◌+◌, ◌^◌, refl, ap, ◌∙◌, arith, le_refl, le_trans, le-add_right}
 use Rattle.std.proofs.lemmas.Result.{IfOk-from_err, IfOk-weaker}
 use Rattle.p3_field.specs.Ring.{count}
 use Rattle.p3_field.proofs.Powers.{count-power_of_two}
@@ -47,7 +47,7 @@ pub returns-then-log_h-added_bits-eq0-clause-engine : goal.returns-then-log_h-ad
 returns-then-log_h-added_bits-eq0-clause-engine g c =
     let none = both_none _ _ c.if-log_h-added_bits-eq0.true in
     rw (← c.into_row_major_matrix-mat.ensures)
-    (after_none _ _ (λ _. at_log _ _ _ c.log_height_lde-log_h.ensures.rows.height (omega (arith, none.0), omega (arith, none.0, none.1))))
+    (after_none (λ _. at_log _ _ _ c.log_height_lde-log_h.ensures.rows.height (omega (arith, none.0), omega (arith, none.0, none.1))))
 
 pub returns-in_err-make : goal.returns-in_err-make
 returns-in_err-make g c = rw (← c.self.view_is, ← c.into_row_major_matrix-mat.ensures) (
@@ -57,7 +57,7 @@ returns-in_err-make g c = rw (← c.self.view_is, ← c.into_row_major_matrix-ma
       one_row = λ one none. absurd (more_points _ _ c.args.added_bits rows.height c.if-log_h-added_bits-eq0.false one none);
       only = at_log _ _ _ rows.height (no_larger _ _ _ c.make.ensures.only);
       engine =
-          tables_refused _ _ _ _ c.args.added_bits _ c.from_residual.result c.from_residual.ensures c.make.ensures.keeps
+          tables_refused _ c.args.added_bits _ c.from_residual.ensures c.make.ensures.keeps
           rows.whole.width rows.height c.in_err-make.ensures.room;
       fewer = λ k high. le-add_right _ _;
     })
@@ -94,7 +94,7 @@ returns g c = rw (← c.self.view_is, ← c.into_row_major_matrix-mat.ensures) (
       only = at_log _ _ _ rows.height (no_larger _ _ _ c.make.ensures.only);
       engine = record {
         later =
-            later_with_heights _ _ _ _ _ _ _ _ refl c.make.ensures.keeps
+            later_with_heights refl c.make.ensures.keeps
             (le_trans c.interpolate_unscaled_to_reversed.ensures.grows c.extend_to_natural.ensures.grows);
         prepared = λ done. at_log _ _ _ rows.height (le_trans (le-add_right _ _) c.in_ok-make.ensures.made, c.in_ok-make.ensures.made);
         cost = at_log _ _ _ rows.height (larger_bound _ _ _ _ made (fewer_than_parts log a _));

@@ -35,20 +35,17 @@ pub coset_lde_batch_of_coefficients_bit_reversed-requires : goal.coset_lde_batch
 coset_lde_batch_of_coefficients_bit_reversed-requires g c =
     let fits = c.requires.fits in
     let stored = c.into_row_major_matrix-mat.ensures in
-    let shape = answered_shape g.F.Valued g.F.TwoAdicField.generator _ (g.N.IntoRowMajorMatrix.stored c.args.mat)
-    c.in_ok-coefficients.coefficients _ _ fits.log fits.height
-    (rw (← stored) c.in_ok-coefficients.ensures.coefficients) (refl, refl)
-    c.width-width.ensures.whole c.requires.shape c.transform-changed.ensures in
+    let shape =
+    answered_shape c.requires.fits (rw stored at c.in_ok-coefficients.ensures.coefficients) (refl, refl) c.width-width.ensures.whole
+    c.requires.shape c.transform-changed.ensures in
     record { fits = fits_lde_as _ _ _ _ _ _ fits shape.0 shape.1 }
 
 pub returns-clause-values : goal.returns-clause-values
 returns-clause-values g c =
-    let fits = c.requires.fits in
     let stored = c.into_row_major_matrix-mat.ensures in
-    let shape = answered_shape g.F.Valued g.F.TwoAdicField.generator _ (g.N.IntoRowMajorMatrix.stored c.args.mat)
-    c.in_ok-coefficients.coefficients _ _ fits.log fits.height
-    (rw (← stored) c.in_ok-coefficients.ensures.coefficients) (refl, refl)
-    c.width-width.ensures.whole c.requires.shape c.transform-changed.ensures in
+    let shape =
+    answered_shape c.requires.fits (rw stored at c.in_ok-coefficients.ensures.coefficients) (refl, refl) c.width-width.ensures.whole
+    c.requires.shape c.transform-changed.ensures in
     IfOk-weaker c.coset_lde_batch_of_coefficients_bit_reversed.result _ _
     (λ out given. extension_of_natural g.F.Valued g.F.TwoAdicField.generator _
     (g.N.IntoRowMajorMatrix.stored c.args.mat) c.in_ok-coefficients.coefficients c.transform-changed.result
@@ -60,28 +57,24 @@ returns-clause-values g c =
 
 pub returns-clause-engine : goal.returns-clause-engine
 returns-clause-engine g c =
-    let fits = c.requires.fits in
     let stored = c.into_row_major_matrix-mat.ensures in
-    let shape = answered_shape g.F.Valued g.F.TwoAdicField.generator _ (g.N.IntoRowMajorMatrix.stored c.args.mat)
-    c.in_ok-coefficients.coefficients _ _ fits.log fits.height
-    (rw (← stored) c.in_ok-coefficients.ensures.coefficients) (refl, refl)
-    c.width-width.ensures.whole c.requires.shape c.transform-changed.ensures in
+    let shape =
+    answered_shape c.requires.fits (rw stored at c.in_ok-coefficients.ensures.coefficients) (refl, refl) c.width-width.ensures.whole
+    c.requires.shape c.transform-changed.ensures in
     let kept : c.args.self.now.prepared ≤ c.prepare.new.self.prepared = omega (arith, c.in_ok-prepare.ensures.made) in
-    after_later _ _ _ _ _ (only_preparing _ _ _ kept c.prepare.ensures.products) c.prepare.ensures.products refl
-    (lde_of_same _ _ _ _ _ _ _ stored
-    (parts_after _ c.into_row_major_matrix-mat.result c.transform-changed.result c.args.added_bits _ _ _ _ _
+    after_later (only_preparing _ _ _ kept c.prepare.ensures.products) c.prepare.ensures.products refl
+    (lde_of_same _ stored
+    (parts_after c.into_row_major_matrix-mat.result c.transform-changed.result c.args.added_bits
     (shape.0 ∙ ap height (sym stored), shape.1 ∙ ap (λ (m : RowMajor g.row.F.Denot). m.width) (sym stored))
     (λ k. omega (arith, entries_rise k c.args.added_bits c.into_row_major_matrix-mat.result.width))
     c.in_ok-coefficients.ensures.engine c.coset_lde_batch_of_coefficients_bit_reversed.ensures.engine))
 
 pub returns-clause-only : goal.returns-clause-only
 returns-clause-only g c k e =
-    let fits = c.requires.fits in
     let stored = c.into_row_major_matrix-mat.ensures in
-    let shape = answered_shape g.F.Valued g.F.TwoAdicField.generator _ (g.N.IntoRowMajorMatrix.stored c.args.mat)
-    c.in_ok-coefficients.coefficients _ _ fits.log fits.height
-    (rw (← stored) c.in_ok-coefficients.ensures.coefficients) (refl, refl)
-    c.width-width.ensures.whole c.requires.shape c.transform-changed.ensures in
+    let shape =
+    answered_shape c.requires.fits (rw stored at c.in_ok-coefficients.ensures.coefficients) (refl, refl) c.width-width.ensures.whole
+    c.requires.shape c.transform-changed.ensures in
     let high = c.log_height_lde-log_h.ensures.rows.height in
     let log = c.log_height_lde-log_h.result in
     let same = log_same log k (sym high ∙ ap height stored ∙ e) in
@@ -107,7 +100,7 @@ returns-in_err-prepare g c = rw (← c.into_row_major_matrix-mat.ensures) (
       values = IfOk-from_err _ _ c.from_residual.ensures.0;
       only = λ k e. no_larger _ _ _ (inl same);
       engine =
-          after_error _ _ _ _ c.from_residual.ensures.0
+          after_error c.from_residual.ensures.0
           (only_preparing _ _ _ (le_of_eq (sym same)) c.prepare.ensures.products) c.prepare.ensures.products (omega arith)
           (first_of _ _ _ _ (le_refl _) (extended_table_fits _ _ rows.whole.width rows.height) _ _ c.from_residual.result _
           c.from_residual.ensures c.in_err-prepare.ensures.room);

@@ -1,4 +1,4 @@
-use Rattle.std.proofs.Common.{◌≡◌, ℕ, ◌+◌, ◌^◌, sym, ap, ◌∙◌, refl, subst, arith, le_refl, le-add_right}
+use Rattle.std.proofs.Common.{◌≡◌, ℕ, ◌+◌, ◌^◌, ap, ◌∙◌, refl, subst, arith, le_refl, le-add_right}
 use Rattle.std.proofs.lemmas.Result.{IfOk-from_err, IfOk-weaker}
 use Rattle.p3_matrix.specs.Cosets.{IsValues, values_of}
 use Rattle.p3_matrix.specs.RowMajor.{RowMajor, height}
@@ -58,7 +58,7 @@ returns-then-added_bits-eq0-clause-engine g c =
     let same = c.shift_rows.ensures.shifted in
     let stored = c.into_row_major_matrix-mat.ensures in
     let all = λ (k : ℕ). let e : k ≡ k + c.args.added_bits = omega (arith, c.if-added_bits-eq0.true) in e in
-    extended_after _ (g.N.IntoRowMajorMatrix.stored c.args.mat) c.shift_rows.new.mat c.args.added_bits _ _ _ _ _
+    extended_after (g.N.IntoRowMajorMatrix.stored c.args.mat) c.shift_rows.new.mat c.args.added_bits
     fits.log fits.height (λ k e. same.height ∙ ap height stored ∙ e ∙ ap (λ n. 2 ^ n) (all k))
     (same.width ∙ ap (λ (m : RowMajor g.row.F.Denot). m.width) stored)
     (rw (← stored) (omega (arith, c.shift_rows.ensures.cost, c.new-products.ensures))) c.add_products.ensures.engine
@@ -71,7 +71,7 @@ returns-in_err-make g c = rw (← c.self.view_is, ← c.into_row_major_matrix-ma
       values = IfOk-from_err _ _ c.from_residual.ensures.0;
       only = at_log _ _ _ rows.height (no_larger _ _ _ c.make.ensures.only);
       engine =
-          tables_refused _ _ _ _ c.args.added_bits _ c.from_residual.result c.from_residual.ensures c.make.ensures.keeps
+          tables_refused _ c.args.added_bits _ c.from_residual.ensures c.make.ensures.keeps
           rows.whole.width rows.height c.in_err-make.ensures.room;
       fewer = λ k high. le-add_right _ _;
     })
@@ -93,7 +93,7 @@ returns g c = rw (← c.self.view_is, ← c.into_row_major_matrix-mat.ensures) (
           c.extend_to_natural.ensures.values;
       only = at_log _ _ _ rows.height (no_larger _ _ _ c.make.ensures.only);
       engine = record {
-        later = later_with_heights _ _ _ _ _ _ _ _ refl c.make.ensures.keeps c.extend_to_natural.ensures.grows;
+        later = later_with_heights refl c.make.ensures.keeps c.extend_to_natural.ensures.grows;
         prepared = λ done. at_log _ _ _ rows.height c.in_ok-make.ensures.made;
         cost = at_log _ _ _ rows.height (larger_bound _ _ _ _ made (points_within log a _));
         tables = omega arith;

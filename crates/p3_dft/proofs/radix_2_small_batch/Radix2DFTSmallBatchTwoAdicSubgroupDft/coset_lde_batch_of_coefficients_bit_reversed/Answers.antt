@@ -32,7 +32,7 @@ returns-in_err-make g c = rw (← c.self.view_is, ← c.into_row_major_matrix-ma
       values = IfOk-from_err _ _ c.from_residual.ensures.0;
       only = at_log _ _ _ rows.height (no_larger _ _ _ c.make.ensures.only);
       engine =
-          tables_refused _ _ _ _ c.args.added_bits _ c.from_residual.result c.from_residual.ensures c.make.ensures.keeps
+          tables_refused _ c.args.added_bits _ c.from_residual.ensures c.make.ensures.keeps
           rows.whole.width rows.height c.in_err-make.ensures.room;
     })
 
@@ -41,6 +41,8 @@ returns-in_err-grown-clause-only g c =
     rw (← c.self.view_is, ← c.into_row_major_matrix-mat.ensures)
     (at_log _ _ _ c.log_height_lde-log_h.ensures.rows.height (no_larger _ _ _ c.make.ensures.only))
 
+-- Below the coefficients lie rows of zeros, and the network leaves values in bit reversed order, which the view turns
+-- into natural order. The tables were made for the extension's height.
 pub returns : goal.returns
 returns g c = rw (← c.self.view_is, ← c.into_row_major_matrix-mat.ensures) (
     let field = g.F.Valued in
@@ -61,7 +63,7 @@ returns g c = rw (← c.self.view_is, ← c.into_row_major_matrix-mat.ensures) (
           (c.extend_to_reversed.ensures.values m c.pad_rows.ensures.whole high c.in_ok-grown.ensures.padded)));
       only = at_log _ _ _ high (no_larger _ _ _ c.make.ensures.only);
       engine = record {
-        later = later_with_heights _ _ _ _ _ _ _ _ refl c.make.ensures.keeps c.extend_to_reversed.ensures.grows;
+        later = later_with_heights refl c.make.ensures.keeps c.extend_to_reversed.ensures.grows;
         prepared = λ done. at_log _ _ _ high c.in_ok-make.ensures.made;
         cost =
             let wide =

@@ -11,7 +11,7 @@ returns g c = record {
       extension_of_equal g.F.Valued g.F.TwoAdicField.generator _ Natural _ _ c.args.added_bits
       (g.F.Valued.value c.args.shift) _ _ refl c.to_row_major_matrix.ensures c.in_ok-values.ensures.values;
   only = c.in_ok-values.ensures.only;
-  engine = as_stored _ _ _ c.in_ok-values.ensures.engine;
+  engine = as_stored c.in_ok-values.ensures.engine;
 }
 
 pub returns-in_err-values : goal.returns-in_err-values
@@ -20,5 +20,5 @@ returns-in_err-values g c =
     record {
       values = IfOk-from_err _ _ err;
       only = c.in_err-values.ensures.only;
-      engine = after_refusal _ _ _ _ _ c.from_residual.ensures c.in_err-values.ensures.engine;
+      engine = after_refusal c.from_residual.ensures c.in_err-values.ensures.engine;
     }

@@ -15,6 +15,6 @@ returns g c = rw (← c.self.view_is) (record {
   one_row = λ one. let (same, kept) = c.on_prepared.ensures.one_row one in (same, ap₂ up_to kept.0 kept.1);
   refused = on_err_weaker c.on_prepared.result (λ same. ap₂ up_to same.0 same.1) c.on_prepared.ensures.refused;
   engine =
-      after_prepared _ _ _ _ _ c.on_prepared.result c.on_prepared.ensures.keeps c.on_prepared.ensures.grows
+      after_prepared _ _ c.on_prepared.ensures.keeps c.on_prepared.ensures.grows
       c.on_prepared.ensures.made c.on_prepared.ensures.cost c.on_prepared.ensures.room;
 })

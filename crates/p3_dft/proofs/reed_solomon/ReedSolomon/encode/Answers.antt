@@ -28,5 +28,5 @@ returns g c =
           }) c.args.mat c.to_row_major_matrix.result (rw (sym c.self.view_is) at c.requires.message)
           (rw c.to_row_major_matrix.ensures c.in_ok-values.ensures.values));
       code = refl;
-      engine = as_stored _ _ _ c.in_ok-values.ensures.engine;
+      engine = as_stored c.in_ok-values.ensures.engine;
     })

@@ -18,5 +18,5 @@ coset_idft_batch-requires-clause-fits g c = rw c.in_ok-try_clone.ensures.copy c.
 
 pub returns-clause-engine : goal.returns-clause-engine
 returns-clause-engine g c =
-    rw (sym c.self.view_is) (dft_of_same g.D.TwoAdicSubgroupDft.facts _ _ _ _ _ 2 c.in_ok-try_clone.ensures.copy
-    (as_stored _ _ _ c.in_ok-coefficients.ensures.engine))
+    rw (sym c.self.view_is) (dft_of_same 2 c.in_ok-try_clone.ensures.copy
+    (as_stored c.in_ok-coefficients.ensures.engine))

@@ -12,21 +12,18 @@ idft_batch-requires g c = record { fits = input_fits _ _ _ _ c.requires.fits }
 pub coset_lde_batch_of_coefficients-requires : goal.coset_lde_batch_of_coefficients-requires
 coset_lde_batch_of_coefficients-requires g c =
     let fits = c.requires.fits in
-    let shape = answered_shape g.F.Valued g.F.TwoAdicField.generator _ _ _ _ _ fits.log fits.height
-    c.in_ok-coefficients.ensures.coefficients c.exchange_layouts.ensures.shape c.exchange_layouts.ensures.whole
-    c.requires.shape
-    (rw c.LAYOUT-2.ensures at c.transform-coefficients.ensures) in
+    let shape =
+    answered_shape c.requires.fits c.in_ok-coefficients.ensures.coefficients c.exchange_layouts.ensures.shape
+    c.exchange_layouts.ensures.whole c.requires.shape (rw c.LAYOUT-2.ensures at c.transform-coefficients.ensures) in
     let back = c.exchange_layouts-2.ensures.shape in
     record { fits = fits_lde_as _ _ _ _ _ _ fits (back.0 ∙ shape.0) (back.1 ∙ shape.1) }
 
 pub returns-clause-values : goal.returns-clause-values
 returns-clause-values g c =
-    let fits = c.requires.fits in
     let called = rw c.LAYOUT-2.ensures at c.transform-coefficients.ensures in
     let shape =
-    answered_shape g.F.Valued g.F.TwoAdicField.generator _ _ _ _ _ fits.log fits.height
-    c.in_ok-coefficients.ensures.coefficients c.exchange_layouts.ensures.shape c.exchange_layouts.ensures.whole
-    c.requires.shape called in
+    answered_shape c.requires.fits c.in_ok-coefficients.ensures.coefficients c.exchange_layouts.ensures.shape
+    c.exchange_layouts.ensures.whole c.requires.shape called in
     let back = c.exchange_layouts-2.ensures.shape in
     IfOk-weaker c.coset_lde_batch_of_coefficients.result _ _
     (λ out given.
@@ -49,22 +46,18 @@ exchange_layouts-requires g c =
 pub exchange_layouts-requires-2 : goal.exchange_layouts-requires-2
 exchange_layouts-requires-2 g c =
     let fits = c.requires.fits in
-    let shape = answered_shape g.F.Valued g.F.TwoAdicField.generator _ _ _ _ _ fits.log fits.height
-    c.in_ok-coefficients.ensures.coefficients c.exchange_layouts.ensures.shape c.exchange_layouts.ensures.whole
-    c.requires.shape
-    (rw c.LAYOUT-2.ensures at c.transform-coefficients.ensures) in
+    let shape =
+    answered_shape c.requires.fits c.in_ok-coefficients.ensures.coefficients c.exchange_layouts.ensures.shape
+    c.exchange_layouts.ensures.whole c.requires.shape (rw c.LAYOUT-2.ensures at c.transform-coefficients.ensures) in
     record { power = (fits.log, shape.0 ∙ fits.height) }
 
 pub returns-clause-engine : goal.returns-clause-engine
 returns-clause-engine g c =
-    let fits = c.requires.fits in
-    let shape = answered_shape g.F.Valued g.F.TwoAdicField.generator _ _ _ _ _ fits.log fits.height
-    c.in_ok-coefficients.ensures.coefficients c.exchange_layouts.ensures.shape c.exchange_layouts.ensures.whole
-    c.requires.shape
-    (rw c.LAYOUT-2.ensures at c.transform-coefficients.ensures) in
+    let shape =
+    answered_shape c.requires.fits c.in_ok-coefficients.ensures.coefficients c.exchange_layouts.ensures.shape
+    c.exchange_layouts.ensures.whole c.requires.shape (rw c.LAYOUT-2.ensures at c.transform-coefficients.ensures) in
     let back = c.exchange_layouts-2.ensures.shape in
-    parts_after g.Self.TwoAdicSubgroupDft.facts (g.N.IntoRowMajorMatrix.stored c.args.mat) c.exchange_layouts-2.new.mat
-    c.args.added_bits _ _ _ _ _ (back.0 ∙ shape.0, back.1 ∙ shape.1)
+    parts_after (g.N.IntoRowMajorMatrix.stored c.args.mat) c.exchange_layouts-2.new.mat c.args.added_bits (back.0 ∙ shape.0, back.1 ∙ shape.1)
     (λ k. omega (arith, entries_rise k c.args.added_bits (g.N.IntoRowMajorMatrix.stored c.args.mat).width))
     c.in_ok-coefficients.ensures.engine c.coset_lde_batch_of_coefficients.ensures.engine
 
@@ -76,4 +69,4 @@ transform-coefficients-requires g c =
 
 pub returns-in_err-coefficients-clause-engine : goal.returns-in_err-coefficients-clause-engine
 returns-in_err-coefficients-clause-engine g c =
-    part_refused _ _ _ _ _ c.from_residual.ensures (λ k. omega arith) (fewer_entries _ _) (omega arith) c.in_err-coefficients.ensures.engine
+    part_refused c.from_residual.ensures (λ k. omega arith) (fewer_entries _ _) (omega arith) c.in_err-coefficients.ensures.engine

@@ -47,6 +47,6 @@ returns-clause-engine g c =
     c.args.added_bits k c.pad_rows.ensures.whole (same.height, same.width) e c.in_ok-padded.ensures.padded in
     let high = ap height stored ∙ fits.height in
     rw stored at
-    (extended_after g.Self.TwoAdicSubgroupDft.facts m c.in_ok-padded.padded c.args.added_bits _ _ _ _ _ fits.log high
+    (extended_after m c.in_ok-padded.padded c.args.added_bits fits.log high
     (λ k e. (grown k e).0) (grown fits.log high).1
     (omega (arith, c.shift_rows.ensures.cost, c.new-products.ensures)) c.add_products.ensures.engine c.dft_batch.ensures.engine)

@@ -17,5 +17,5 @@ returns g c =
           subst (λ (out : RowMajor g.row.F.Denot). IsExtendedTransform g.F.Valued g.F.TwoAdicField.generator mat
           c.args.added_bits (g.F.Valued.value c.args.shift) out) (sym c.into_bit_reversed.ensures)
           c.in_ok-extension.ensures.values;
-      engine = as_stored g.Self.TwoAdicSubgroupDft.facts _ _ c.in_ok-extension.ensures.engine;
+      engine = as_stored c.in_ok-extension.ensures.engine;
     }
