@@ -9,9 +9,8 @@ use Rattle.p3_matrix.specs.Matrix.{Matrix, Same, image, matrix}
 use Rattle.p3_matrix.specs.RowMajor.{RowMajor, IsRowMajor, height}
 use Rattle.p3_matrix.proofs.BitReversal.{reversed_back, reversed_twice}
 use Rattle.p3_matrix.proofs.Matrices.{mapped_same, same_sym}
-use Rattle.p3_matrix.proofs.TwoPowers.{entries_rise}
 use Rattle.p3_matrix.specs.Cosets.{AreCoefficients, IsQuotient, IsValues, coset_shift, point, values_of}
-use Rattle.p3_dft.specs.Extensions.{AreTransformedValues, IsExtension, extension_bound}
+use Rattle.p3_dft.specs.Extensions.{AreTransformedValues, IsExtension}
 use Rattle.p3_matrix.specs.Polynomials.{poly}
 use Rattle.p3_dft.specs.Shapes.{FitsDft}
 use Rattle.p3_dft.specs.Transforms.{IsExtendedTransform, IsInterpolation}
@@ -180,13 +179,3 @@ module _ {F : Type 0} (f : FieldMembers F) (generator : ℕ → F) where
     where
       back : (x : RowMajor F) → height x ≡ 2 ^ log → Same (values_of f x) (bit_reversal log (bit_reversal log (values_of f x)))
       back x of_log = same_sym (bit_reversal log (bit_reversal log (values_of f x))) (values_of f x) (reversed_twice log (values_of f x) of_log)
-
--- two networks, and two products for each entry of the smaller matrix, are within the bound of an extension
-pub within_extension : (bound : ℕ → ℕ → ℕ) (k a w before after : ℕ)
-    → after ≤ before + (bound k w + bound (k + a) w + 2 * (2 ^ k * w)) → after ≤ before + extension_bound bound k a w
-within_extension bound k a w before after made = let rise = entries_rise k a w in omega (arith, made, rise)
-
--- and so is what was made when memory for the second was refused
-pub first_within_extension : (bound : ℕ → ℕ → ℕ) (k a w before after : ℕ) → after ≤ before + bound k w + 2 * (2 ^ k * w)
-    → after ≤ before + extension_bound bound k a w
-first_within_extension bound k a w before after made = let rise = entries_rise k a w in omega (arith, made, rise)

@@ -1,13 +1,10 @@
--- Powers in bit reversed order: as they are made, and as weights of rows that lie in that order.
-use Rattle.std.proofs.Common.{◌≡◌, Bool, true, false, ℕ, suc, ◌+◌, ◌*◌, ◌-◌, ◌<◌, ◌^◌, refl, sym, ap, ap₂, ◌∙◌, [], ◌∷◌, arith, add-one, ⊎_elim}
+-- Powers in bit reversed order, as they are made.
+use Rattle.std.proofs.Common.{◌≡◌, Bool, true, false, ℕ, suc, ◌+◌, ◌*◌, ◌-◌, ◌<◌, ◌^◌, refl, sym, ap, ap₂, ◌∙◌, arith, add-one, ⊎_elim}
 use Rattle.std.proofs.lemmas.Bool.{cases_lt}
 use Rattle.p3_field.specs.Ring.{Ring, power}
 use Rattle.p3_field.proofs.Powers.{power-add}
-use Rattle.p3_field.proofs.RingSolver.{solve, va, vb, vc, ◌⊠◌}
-use Rattle.p3_matrix.specs.BitOrder.{rev, bit_reversal}
-use Rattle.p3_matrix.specs.Matrix.{Matrix, Same, image}
-use Rattle.p3_matrix.proofs.BitReversal.{rev_of_zero, rev-odd, rev-block, rev-lt, rev-rev}
-use Rattle.p3_matrix.specs.Cosets.{coset_shift}
+use Rattle.p3_matrix.specs.BitOrder.{rev}
+use Rattle.p3_matrix.proofs.BitReversal.{rev_of_zero, rev-odd, rev-block}
 use Rattle.p3_networks.specs.Twiddles.{layer_place}
 
 -- one binary digit more in front is one more behind
@@ -58,19 +55,3 @@ module _ {A : Type 0} (R : Ring A) where
       ap y (sym whole) ∙ after t small ∙ ap₂ ◌⊗◌ (so_far t small) is ∙ R.mul_assoc first (power R base (place t)) (power R base (2 ^ e))
       ∙ ap (λ z. first ⊗ z) (sym (power-add R base (place t) (2 ^ e)) ∙ ap (power R base) (sym (above t small) ∙ ap place whole)))
       (cases_lt b (2 ^ l))
-
-  -- rows in bit reversed order, each times the power of its own number in natural order
-  pub weighed_rows : (k : ℕ) (scale shift : A) (m out : Matrix A) (weights : ℕ → A) → m.height ≡ 2 ^ k
-      → Same out (record { height = m.height; width = m.width; entry = λ i j. m.entry i j ⊗ weights i })
-      → ((b : ℕ) → b < 2 ^ k → weights b ≡ scale ⊗ power R shift (rev k b))
-      → Same (bit_reversal k out) (image (λ x. x ⊗ scale) (coset_shift R shift (bit_reversal k m)))
-  weighed_rows k scale shift m out weights high same are = record {
-    height = same.height;
-    width = same.width;
-    alike = λ i j below inside.
-        let small : i < 2 ^ k = omega (arith, same.height, high) in
-        let x = m.entry (rev k i) j in
-        same.alike (rev k i) j (omega (arith, rev-lt k i, same.height, high)) inside
-        ∙ ap (λ w. x ⊗ w) (are (rev k i) (rev-lt k i) ∙ ap (λ e. scale ⊗ power R shift e) (rev-rev k i small))
-        ∙ solve R (x ∷ scale ∷ power R shift i ∷ []) (va ⊠ (vb ⊠ vc)) ((va ⊠ vc) ⊠ vb) refl;
-  }
