@@ -57,12 +57,18 @@ pub fn reversed(i: usize, bits: usize) -> usize {
 
 /// Puts the rows of a matrix of `2^bits` rows into bit reversed order, or back.
 pub fn reverse_rows<W>(words: &mut [W], width: usize, bits: usize) {
+    if bits == 0 {
+        return;
+    }
+    // The digits of `i` in reverse, the first of them the highest of a word: one more carries from there.
+    let mut digits = 0_usize;
     for i in 0..1 << bits {
-        let other = reversed(i, bits);
+        let other = digits >> (usize::BITS as usize - bits);
         if i < other {
             let (before, after) = words.split_at_mut(other * width);
             before[i * width..][..width].swap_with_slice(&mut after[..width]);
         }
+        digits ^= !(usize::MAX >> 1 >> digits.leading_ones());
     }
 }
 
