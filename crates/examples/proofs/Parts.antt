@@ -1,10 +1,10 @@
 -- A transform by parts: the sizes of the parts, and a matrix that is written row by row from the rows of others, in turn.
-use Rattle.std.proofs.Common.{◌≡◌, ℕ, suc, ◌+◌, ◌-◌, ◌*◌, ◌/◌, ◌%◌, ◌^◌, ◌<◌, ◌≤◌, ◌⊎◌, inl, inr, List, ◌++◌, length}
+use Rattle.std.proofs.Common.{◌≡◌, ℕ, suc, ◌+◌, ◌-◌, ◌*◌, ◌/◌, ◌%◌, ◌^◌, ◌<◌, ◌≤◌, ◌⊎◌, inl, inr, List, [], ◌∷◌, ◌++◌, length}
 use Rattle.std.proofs.Common.{get_or, rules, refl, sym, ap, ap₂, ◌∙◌, subst, arith, pow-add, pow_pos}
 use Rattle.std.proofs.Math.ListN.{get_or-append}
 use Rattle.std.proofs.Math.Nat.{div-mul-le_self, mul-div_cancel, mul-le-mul_left, mul-le-mul_right, two-pow-succ}
 use Rattle.std.proofs.lemmas.Bool.{cases_lt}
-use Rattle.std.proofs.lemmas.List.{get_or-append-add, places}
+use Rattle.std.proofs.lemmas.List.{get_or-append-add, get_or_push, places}
 use Rattle.std.proofs.lemmas.Nat.{div-mul-add, mod-mul-add, mul-add-lt}
 use Rattle.p3_field.specs.declared.fields.Valued.{Ghosts as FieldMembers}
 use Rattle.p3_matrix.specs.Cosets.{values_of}
@@ -13,7 +13,7 @@ use Rattle.p3_matrix.proofs.TwoPowers.{log_lt}
 use Rattle.p3_dft.specs.Parts.{IsInterleaved, row_as_matrix, wide_rows}
 use Rattle.p3_dft.specs.Shapes.{FitsDft}
 use Rattle.p3_dft.specs.Transforms.{IsTransform}
-use Rattle.p3_dft.proofs.Calls.Shapes.{log_fits_dft}
+use Rattle.p3_dft.proofs.Calls.Shapes.{fits_dft_as, log_fits_dft}
 use Rattle.p3_dft.proofs.Laws.Parts.{wide_height}
 
 -- a transform, of what it is told with other words
@@ -23,73 +23,73 @@ transform_as f generator m n out natural s x is shift same transform =
     subst (λ p. IsTransform f generator p s out) is
     (subst (λ y. IsTransform f generator m y out) shift (subst (λ p. IsTransform f generator m x p) (sym same) transform))
 
--- 2 ^ a parts of 2 ^ (k - a) rows of w entries are all h rows
-pub record ArePartSizes (bits h w a k : ℕ) : Type 0 where
-  pub fewer : a ≤ k
-  pub small : k < 64
-  pub within : k ≤ bits
-  pub some : 1 ≤ w
-  pub total : a + (k - a) ≡ k
-  pub all : h ≡ 2 ^ a * 2 ^ (k - a)
-  pub part : 2 ^ (k - a) * w ≤ h * w
-  pub size : h * w < 2 ^ 64
-
-pub part_sizes : {bits : ℕ} (h w a k : ℕ) → FitsDft bits h w → h ≡ 2 ^ k → 2 ^ a ≤ h → ArePartSizes bits h w a k
-part_sizes h w a k fits high parts =
-    let logs = log_fits_dft h k fits high refl in
+-- so many rows of a part are all, in 2 ^ a parts
+pub rows_of_parts : {bits h w : ℕ} (a k : ℕ) → FitsDft bits h w → h ≡ 2 ^ k → 2 ^ a ≤ h → (a ≤ k) × (h ≡ 2 ^ (a + (k - a)))
+rows_of_parts a k fits high parts =
     let fewer : a ≤ k = omega (arith, log_lt a (suc k) (omega (arith, parts, high, two-pow-succ k, pow_pos k))) in
-    let total : a + (k - a) ≡ k = omega (arith, fewer) in
-    let all : h ≡ 2 ^ a * 2 ^ (k - a) = high ∙ ap (λ n. 2 ^ n) (sym total) ∙ pow-add 2 a (k - a) in
-    let one_part : 1 * 2 ^ (k - a) ≤ 2 ^ a * 2 ^ (k - a) = mul-le-mul_right (2 ^ (k - a)) (pow_pos a) in
-    record {
-      fewer = fewer;
-      small = logs.1;
-      within = logs.0;
-      some = fits.width;
-      total = total;
-      all = all;
-      part = mul-le-mul_right w (omega (arith, all, one_part));
-      size = fits.size;
-    }
+    (fewer, high ∙ ap (λ n. 2 ^ n) (omega (arith, fewer)))
 
--- a part is no matrix without entries, and has one of the shapes that can be transformed
-pub part_some : {bits h w a k : ℕ} → ArePartSizes bits h w a k → 1 ≤ 2 ^ (k - a) * w
-part_some {w = w} {a = a} {k = k} sizes =
-    let rise : 2 ^ (k - a) * 1 ≤ 2 ^ (k - a) * w = mul-le-mul_left (2 ^ (k - a)) sizes.some in
-    omega (arith, rise, pow_pos (k - a))
+-- 2 ^ (a + b) rows of w entries, that can be transformed: so can 2 ^ b of them
+module _ {bits w : ℕ} (a b : ℕ) (fits : FitsDft bits (2 ^ (a + b)) w) where
+  pub logs_of_parts : (a + b ≤ bits) × (a + b < 64)
+  logs_of_parts = log_fits_dft (2 ^ (a + b)) (a + b) fits refl refl
 
-pub part_fits : {bits h w a k : ℕ} → ArePartSizes bits h w a k → FitsDft bits (2 ^ (k - a)) w
-part_fits {a = a} {k = k} sizes = record {
-  log = k - a;
-  within = omega (arith, sizes.within);
-  height = refl;
-  width = sizes.some;
-  size = omega (arith, sizes.part, sizes.size);
-}
+  pub part_within : 2 ^ b * w ≤ 2 ^ (a + b) * w
+  part_within =
+      let rise : 1 * 2 ^ b ≤ 2 ^ a * 2 ^ b = mul-le-mul_right (2 ^ b) (pow_pos a) in
+      mul-le-mul_right w (omega (arith, rise, pow-add 2 a b))
 
-module _ {F : Type 0} (f : FieldMembers F) {bits a k : ℕ} (m : RowMajor F) (sizes : ArePartSizes bits (height m) m.width a k) where
+  pub part_some : 1 ≤ 2 ^ b * w
+  part_some = let rise : 2 ^ b * 1 ≤ 2 ^ b * w = mul-le-mul_left (2 ^ b) fits.width in omega (arith, rise, pow_pos b)
+
+  pub part_fits : FitsDft bits (2 ^ b) w
+  part_fits = record {
+    log = b;
+    within = omega (arith, logs_of_parts.0);
+    height = refl;
+    width = fits.width;
+    size = omega (arith, part_within, fits.size);
+  }
+
+module _ {F : Type 0} (f : FieldMembers F) {bits : ℕ} (m : RowMajor F) (a b : ℕ) (fits : FitsDft bits (height m) m.width) (high : height m ≡ 2 ^ (a + b)) where
+  pub fits_as_parts : FitsDft bits (2 ^ (a + b)) m.width
+  fits_as_parts = fits_dft_as _ _ _ _ _ fits (sym high) refl
+
   -- the wide rows: 2 ^ a of them, which can be transformed
-  pub wide_count : height (wide_rows (2 ^ (k - a)) m) ≡ 2 ^ a
-  wide_count = wide_height f m (2 ^ a) (2 ^ (k - a)) (pow_pos (k - a)) sizes.all
+  wide_count : height (wide_rows (2 ^ b) m) ≡ 2 ^ a
+  wide_count = wide_height f m (2 ^ a) (2 ^ b) (pow_pos b) (high ∙ pow-add 2 a b)
 
-  pub wide_fits : FitsDft bits (height (wide_rows (2 ^ (k - a)) m)) (2 ^ (k - a) * m.width)
+  pub wide_fits : FitsDft bits (height (wide_rows (2 ^ b) m)) (2 ^ b * m.width)
   wide_fits =
-      let entries : height (wide_rows (2 ^ (k - a)) m) * (2 ^ (k - a) * m.width) ≡ height m * m.width =
-      ap (λ h. h * (2 ^ (k - a) * m.width)) wide_count ∙ omega arith ∙ ap (λ h. h * m.width) (sym sizes.all) in
+      let logs = logs_of_parts a b fits_as_parts in
+      let entries : height (wide_rows (2 ^ b) m) * (2 ^ b * m.width) ≡ height m * m.width =
+      ap (λ h. h * (2 ^ b * m.width)) wide_count ∙ omega arith ∙ ap (λ h. h * m.width) (sym (high ∙ pow-add 2 a b)) in
       record {
         log = a;
-        within = omega (arith, sizes.fewer, sizes.within);
+        within = omega (arith, logs.0);
         height = wide_count;
-        width = part_some sizes;
-        size = omega (arith, entries, sizes.size);
+        width = part_some a b fits_as_parts;
+        size = omega (arith, entries, fits.size);
       }
 
   -- and what their transform has
-  pub middle_shape : (generator : ℕ → F) (middle : RowMajor F) (x : f.Element) → IsTransform f generator (wide_rows (2 ^ (k - a)) m) x middle
-      → (height middle ≡ 2 ^ a) × (middle.width ≡ 2 ^ (k - a) * m.width)
-  middle_shape generator middle x transform =
+  pub wide_shape : (generator : ℕ → F) (middle : RowMajor F) (x : f.Element) → IsTransform f generator (wide_rows (2 ^ b) m) x middle
+      → (height middle ≡ 2 ^ a) × (middle.width ≡ 2 ^ b * m.width)
+  wide_shape generator middle x transform =
       let done = transform a wide_count in
       (done.height, done.width)
+
+-- one more is pushed, of which is told what is told of the others
+pub each_more : {T : Type 0} (P : ℕ → T → Type 0) (n : ℕ) (old new : List T) (x : T) → length old ≡ n → new ≡ old ++ x ∷ []
+    → ((i : ℕ) (d : T) → i < n → P i (get_or old i d)) → P n x → (i : ℕ) (d : T) → i < n + 1 → P i (get_or new i d)
+each_more P n old new x long is before here i d below = cases (cases_lt i n)
+  where
+    cases : (i < n) ⊎ (n ≤ i) → P i (get_or new i d)
+    cases (inl less) =
+        subst (P i) (sym (ap (λ xs. get_or xs i d) is ∙ get_or-append old (x ∷ []) d i (omega (arith, less, long)))) (before i d less)
+    cases (inr more) =
+        let same : n ≡ i = omega (arith, below, more) in
+        subst (λ (k : ℕ). P k (get_or new k d)) same (subst (P n) (sym (ap (λ xs. get_or xs n d) is ∙ get_or_push old x d n long)) here)
 
 module _ {T : Type 0} where
   -- a row lies within the entries
@@ -126,12 +126,12 @@ module _ {T : Type 0} where
 pub row_height : {F : Type 0} (middle : RowMajor F) (n w i : ℕ) → 1 ≤ w → middle.width ≡ n * w → i < height middle → height (row_as_matrix w middle i) ≡ n
 row_height middle n w i some wide below = ap (λ k. k / w) (row_long middle i below ∙ wide) ∙ mul-div_cancel n some
 
-pub shapes_of_parts : {F : Type 0} (f : FieldMembers F) (generator : ℕ → F) (middle : RowMajor F) (parts : List (RowMajor F)) (shift : ℕ → f.Element) (b w : ℕ)
-    → 1 ≤ w → middle.width ≡ 2 ^ b * w
-    → ((i : ℕ) (d : RowMajor F) → i < height middle → IsTransform f generator (row_as_matrix w middle i) (shift i) (get_or parts i d))
-    → (i : ℕ) (d : RowMajor F) → i < height middle → (height (get_or parts i d) ≡ 2 ^ b) × ((get_or parts i d).width ≡ w)
-shapes_of_parts f generator middle parts shift b w some wide transforms i d below =
-    let done = transforms i d below b (row_height middle (2 ^ b) w i some wide below) in
+pub shapes_of_parts : {F : Type 0} (f : FieldMembers F) (generator : ℕ → F) (middle : RowMajor F) (parts : List (RowMajor F)) (a b w : ℕ)
+    (shift : ℕ → f.Element) → 1 ≤ w → height middle ≡ 2 ^ a → middle.width ≡ 2 ^ b * w
+    → ((i : ℕ) (d : RowMajor F) → i < 2 ^ a → IsTransform f generator (row_as_matrix w middle i) (shift i) (get_or parts i d))
+    → (i : ℕ) (d : RowMajor F) → i < 2 ^ a → (height (get_or parts i d) ≡ 2 ^ b) × ((get_or parts i d).width ≡ w)
+shapes_of_parts f generator middle parts a b w shift some tall wide transforms i d below =
+    let done = transforms i d below b (row_height middle (2 ^ b) w i some wide (omega (arith, below, tall))) in
     (done.height, done.width)
 
 -- when all are written, the rows of the parts stand in turn

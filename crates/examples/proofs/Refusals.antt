@@ -1,7 +1,7 @@
 -- What the error that `?` hands on tells, of a growth and of a list of jobs.
 use Rattle.std.proofs.Common.{ℕ, ◌≡◌, inl, inr, List, [], Result, Ok, Err, IfErr, IsErr, IsErrAnd, subst, sym}
 use Rattle.p3_matrix.specs.declared.error.DftError.{DftError}
-use Rattle.p3_matrix.specs.Room.{IsWithin, WasOutOfMemory}
+use Rattle.p3_matrix.specs.Room.{IsWithin, IsWithinEither, WasOutOfMemory}
 use Rattle.p3_matrix.specs.RowMajor.{RowMajor}
 use Rattle.p3_dft.specs.Engines.{EngineFacts}
 use Rattle.p3_dft.specs.Jobs.{RanOut}
@@ -14,6 +14,12 @@ pub told_by_growth : {A : Type 0} (r : Result A DftError) (e : DftError) (bytes 
     → IsErr r × IsErrAnd r (λ y. y ≡ e) → IsWithin bytes n e → IfErr r WasOutOfMemory
 told_by_growth (Ok answer) e bytes n told room = tt
 told_by_growth (Err error) e bytes n told room = (bytes, n, 0, 0, inl (subst (IsWithin bytes n) (sym told.1) room))
+
+-- the error of a call by an engine
+pub told_by_either : {A : Type 0} (r : Result A DftError) (e : DftError) (bytes n other m : ℕ)
+    → IsErr r × IsErrAnd r (λ y. y ≡ e) → IsWithinEither bytes n other m e → IfErr r WasOutOfMemory
+told_by_either (Ok answer) e bytes n other m told room = tt
+told_by_either (Err error) e bytes n other m told room = (bytes, n, other, m, subst (IsWithinEither bytes n other m) (sym told.1) room)
 
 -- a job, where the bound wants one of a list that may have none
 no_rows : {F : Type 0} → Job F

@@ -6,12 +6,13 @@
 //!
 //! Proved: the parts give what one call gives, the values on the coset.
 
-ghost use Rattle.std.specs.Prelude.{◌≡◌, ℕ, ◌+◌, ◌*◌, ◌/◌, ◌%◌, ◌^◌, ◌<◌, ◌≤◌, IfErr, IfOk, get_or, length};
-ghost use Rattle.p3_matrix.specs.Cosets.{values_of};
+ghost use Rattle.std.specs.Prelude.{◌≡◌, ℕ, ◌+◌, ◌*◌, ◌^◌, ◌<◌, ◌≤◌, IfErr, IfOk, get_or, length};
+ghost use Rattle.p3_field.specs.Ring.{power};
+ghost use Rattle.p3_matrix.specs.Cosets.{point, values_of};
 ghost use Rattle.p3_matrix.specs.Room.{WasOutOfMemory};
 ghost use Rattle.p3_matrix.specs.RowMajor.{height};
 ghost use Rattle.p3_dft.specs.Engines.{IsLater};
-ghost use Rattle.p3_dft.specs.Parts.{IsInterleaved, row_as_matrix};
+ghost use Rattle.p3_dft.specs.Parts.{IsInterleaved, row_as_matrix, wide_rows};
 ghost use Rattle.p3_dft.specs.Shapes.{FitsDft};
 ghost use Rattle.p3_dft.specs.Transforms.{IsTransform};
 
@@ -19,32 +20,67 @@ use p3_dft::{
     DftError, Evaluations, RowMajorMatrix, TwoAdicField, TwoAdicSubgroupDft, growth, log_height,
 };
 
-// The transform of each row, as a matrix of `width` columns, on the coset of its own shift.
+// The logarithm of the number of rows of a part, where there are `2^log_parts` parts.
+fn log_rows_of_part<F: TwoAdicField>(mat: &RowMajorMatrix<F>, log_parts: usize) -> usize
+    requires fits { FitsDft F.TWO_ADICITY (height mat.now) mat.now.width }
+    requires parts { 2 ^ log_parts ≤ height mat.now }
+    ensures { height mat.now ≡ 2 ^ (log_parts + result) }
+{
+    log_height(mat) - log_parts
+}
+
+// The transform of the wide rows, `2^log_rows` rows of the matrix in each.
+fn transform_wide_rows<F: TwoAdicField, D: TwoAdicSubgroupDft<F>>(
+    engine: &mut D,
+    coefficients: RowMajorMatrix<F>,
+    shift: F,
+    log_rows: usize,
+) -> Result<RowMajorMatrix<F>, DftError>
+    requires fits { FitsDft F.TWO_ADICITY (height coefficients) coefficients.width }
+    requires whole { (a : ℕ) × (height coefficients ≡ 2 ^ (a + log_rows)) }
+    ensures shape { IfOk result (λ wide. (a : ℕ) → height coefficients ≡ 2 ^ (a + log_rows)
+        → (height wide ≡ 2 ^ a) × (wide.width ≡ 2 ^ log_rows * coefficients.width)) }
+    ensures values { IfOk result (IsTransform F.Valued.own F.generator (wide_rows (2 ^ log_rows) coefficients)
+        (power F.ring (F.value shift) (2 ^ log_rows))) }
+    ensures later { IsLater D.facts engine.old engine.new }
+    ensures refused { IfErr result WasOutOfMemory }
+{
+    let width = coefficients.width();
+    let rows = 1 << log_rows;
+    let wide = RowMajorMatrix::new(coefficients.into_values(), rows * width);
+    let wide = engine
+        .coset_dft_batch(wide, shift.exp_power_of_2(log_rows))?
+        .to_row_major_matrix();
+    Ok(wide)
+}
+
+// The transform of each wide row as a matrix of `width` columns: row i on the coset of point i.
 fn transform_each_row<F: TwoAdicField, D: TwoAdicSubgroupDft<F>>(
     engine: &mut D,
     wide: &RowMajorMatrix<F>,
     width: usize,
-    shifts: &[F],
+    shift: F,
+    log_parts: usize,
+    log_rows: usize,
 ) -> Result<Vec<RowMajorMatrix<F>>, DftError>
-    requires fits { FitsDft F.TWO_ADICITY (wide.now.width / width) width }
-    requires whole { wide.now.width / width * width ≡ wide.now.width }
-    requires shifts { length shifts.now ≡ height wide.now }
-    ensures count { IfOk result (λ parts. length parts.items ≡ height wide.now) }
-    ensures parts { IfOk result (λ parts. (i : ℕ) (d : _) → i < height wide.now
+    requires fits { FitsDft F.TWO_ADICITY (2 ^ (log_parts + log_rows)) width }
+    requires tall { height wide.now ≡ 2 ^ log_parts }
+    requires wide { wide.now.width ≡ 2 ^ log_rows * width }
+    ensures count { IfOk result (λ parts. length parts.items ≡ 2 ^ log_parts) }
+    ensures parts { IfOk result (λ parts. (i : ℕ) (d : _) → i < 2 ^ log_parts
         → IsTransform F.Valued.own F.generator (row_as_matrix width wide.now i)
-        (F.value (get_or shifts.now i F.zero)) (get_or parts.items i d)) }
+        (point F.ring (λ n. F.value (F.generator n)) (log_parts + log_rows) (F.value shift) i) (get_or parts.items i d)) }
     ensures later { IsLater D.facts engine.old engine.new }
     ensures refused { IfErr result WasOutOfMemory }
 {
     let alloc = *wide.allocator();
+    let root = F::two_adic_generator(log_parts + log_rows);
     let mut parts = growth::with_capacity(alloc, wide.height())?;
     for i in 0..wide.height() {
         let row = RowMajorMatrix::new(growth::from_slice(alloc, wide.row(i))?, width);
-        parts.push_reserved(
-            engine
-                .coset_dft_batch(row, shifts[i])?
-                .to_row_major_matrix(),
-        );
+        let point = shift * root.exp_u64(i as u64);
+        let part = engine.coset_dft_batch(row, point)?.to_row_major_matrix();
+        parts.push_reserved(part);
     }
     Ok(parts)
 }
@@ -87,19 +123,10 @@ pub fn coset_dft_by_parts<F: TwoAdicField, D: TwoAdicSubgroupDft<F>>(
     ensures later { IsLater D.facts engine.old engine.new }
     ensures refused { IfErr result WasOutOfMemory }
 {
-    let alloc = *coefficients.allocator();
     let width = coefficients.width();
-    let log_size = log_height(&coefficients);
-    let log_rows = log_size - log_parts;
-    let (parts, rows) = (1 << log_parts, 1 << log_rows);
-    // First all wide rows together.
-    let wide = RowMajorMatrix::new(coefficients.into_values(), rows * width);
-    let wide = engine
-        .coset_dft_batch(wide, shift.exp_power_of_2(log_rows))?
-        .to_row_major_matrix();
-    // Then each alone, on the coset of its point.
-    let points = F::two_adic_generator(log_size).shifted_powers(shift);
-    let points = points.collect_n(alloc, parts)?;
-    let parts = transform_each_row(engine, &wide, width, &points)?;
+    let log_rows = log_rows_of_part(&coefficients, log_parts);
+    let wide = transform_wide_rows(engine, coefficients, shift, log_rows)?;
+    let parts = transform_each_row(engine, &wide, width, shift, log_parts, log_rows)?;
+    let rows = 1 << log_rows;
     interleave(&parts, rows, width)
 }
