@@ -1,4 +1,5 @@
 pub mod Answers
 pub mod NamedFields
 pub mod Statuses
+pub mod WideFields
 pub mod Words

@@ -5,8 +5,8 @@ ghost use Rattle.std.specs.List.{All, AllZip};
 ghost use Rattle.std.specs.Mem.{type_size};
 ghost use Rattle.p3_matrix.specs.Room.{IsWithin};
 
-use p3_dft::{BabyBear, CanonicalField, DftError, Field, KoalaBear, growth};
-use p3_field::{GoldilocksIn, GoldilocksPacking};
+use p3_dft::{CanonicalField, DftError, Field, growth};
+use p3_field::{GoldilocksIn, GoldilocksPacking, Residue31, ResiduePacking};
 use std::alloc::Global;
 
 /// A field whose elements callers name by words of one size.
@@ -30,35 +30,17 @@ pub trait WordField: CanonicalField {
         ensures { word_number result ≡ Self.number (Self.value self.now) };
 }
 
-impl WordField for BabyBear {
+impl<N: ResiduePacking> WordField for Residue31<N> {
     type Word = u32;
 
     ghost word_number = { λ n. n };
 
     fn is_below(word: u32) -> bool {
-        (word as u64) < BabyBear::ORDER_U64
+        (word as u64) < Residue31::<N>::ORDER_U64
     }
 
-    fn from_word(word: u32) -> BabyBear {
-        BabyBear::new(word as u64).unwrap_or(BabyBear::ZERO)
-    }
-
-    fn to_word(&self) -> u32 {
-        self.as_canonical_u64() as u32
-    }
-}
-
-impl WordField for KoalaBear {
-    type Word = u32;
-
-    ghost word_number = { λ n. n };
-
-    fn is_below(word: u32) -> bool {
-        (word as u64) < KoalaBear::ORDER_U64
-    }
-
-    fn from_word(word: u32) -> KoalaBear {
-        KoalaBear::new(word as u64).unwrap_or(KoalaBear::ZERO)
+    fn from_word(word: u32) -> Residue31<N> {
+        Residue31::new(word as u64).unwrap_or(<Residue31<N> as Field>::ZERO)
     }
 
     fn to_word(&self) -> u32 {
