@@ -1,11 +1,7 @@
 -- A layer on a chunk of rows: the chunk with this number of those of 2 ^ top rows.
-use Rattle.std.proofs.Common.{◌≡◌, ℕ, suc, ◌+◌, ◌*◌, ◌-◌, ◌<◌, ◌≤◌, ◌^◌, List, length, get_or, sym, ap, ap₂, ◌∙◌, subst, arith, lit≤, ⊎_elim}
-use Rattle.std.proofs.Math.Nat.{pow-le-pow_right, mul-le-mul_right, mul-le-mul_left, two-pow-succ}
-use Rattle.std.proofs.lemmas.Bool.{cases_lt}
-use Rattle.std.proofs.lemmas.Nat.{one_shl, pow_pos}
-use Rattle.p3_matrix.proofs.TwoPowers.{log_lt}
-use Rattle.p3_networks.specs.Counts.{RisesAtMost}
-use Rattle.p3_networks.specs.Layers.{AreLayers, HoldsCells, IsLayer}
+use Rattle.p3_networks.proofs.Names.{◌≡◌, ℕ, suc, ◌+◌, ◌*◌, ◌-◌, ◌<◌, ◌≤◌, ◌^◌, List, length, get_or, sym, ap, ap₂, ◌∙◌, subst, arith, lit≤, ⊎_elim}
+use Rattle.p3_networks.proofs.Names.{pow-le-pow_right, mul-le-mul_right, mul-le-mul_left, two-pow-succ, cases_lt, one_shl, pow_pos, log_lt, RisesAtMost}
+use Rattle.p3_networks.proofs.Names.{AreLayers, HoldsCells, IsLayer}
 use Rattle.p3_networks.proofs.Layers.Blocks.{each_row, halves_whole}
 use Rattle.p3_networks.proofs.Layers.Shifts.{one_shifted}
 

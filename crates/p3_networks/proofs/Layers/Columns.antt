@@ -1,10 +1,6 @@
 -- Columns of rows that lie one after another: cells that meet from one place of a row up to another, while the others stay.
-use Rattle.std.proofs.Common.{◌≡◌, ◌⊎◌, ℕ, ◌+◌, ◌*◌, ◌-◌, ◌/◌, ◌%◌, ◌<◌, ◌≤◌, List, get_or, sym, ap, ap₂, ◌∙◌, subst, arith, ⊎_elim}
-use Rattle.std.proofs.lemmas.Bool.{cases_lt}
-use Rattle.std.proofs.lemmas.Nat.{div-add-mod', div_below, mod_below}
-use Rattle.p3_networks.specs.Chunks.{chunk_of}
-use Rattle.p3_networks.specs.Groups.{HoldsColumns, MeetInColumns, TakesColumns}
-use Rattle.p3_networks.specs.Layers.{IsLayer}
+use Rattle.p3_networks.proofs.Names.{◌≡◌, ◌⊎◌, ℕ, ◌+◌, ◌*◌, ◌-◌, ◌/◌, ◌%◌, ◌<◌, ◌≤◌, List, get_or, sym, ap, ap₂, ◌∙◌, subst, arith, ⊎_elim, cases_lt}
+use Rattle.p3_networks.proofs.Names.{div-add-mod', div_below, mod_below, chunk_of, HoldsColumns, MeetInColumns, TakesColumns, IsLayer}
 use Rattle.p3_networks.proofs.Layers.Blocks.{halves_are, row_below}
 use Rattle.p3_networks.proofs.Rows.EachChunk.{chunk_at}
 

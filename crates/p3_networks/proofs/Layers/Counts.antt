@@ -1,8 +1,6 @@
 -- What loops count at most, where each turn makes at most so many products.
-use Rattle.std.proofs.Common.{◌≡◌, ℕ, zero, suc, ◌+◌, ◌*◌, ◌-◌, ◌/◌, ◌^◌, ◌<◌, ◌≤◌, refl, sym, ap, ap₂, ◌∙◌, subst, arith, add-one}
-use Rattle.std.proofs.lemmas.Nat.{pow-add}
-use Rattle.p3_networks.specs.Counts.{RisesAtMost}
-use Rattle.std.proofs.Math.Nat.{suc-mul, mul-div_cancel, mul-le-mul_left, mul-le-mul_right}
+use Rattle.p3_networks.proofs.Names.{◌≡◌, ℕ, zero, suc, ◌+◌, ◌*◌, ◌-◌, ◌/◌, ◌^◌, ◌<◌, ◌≤◌, refl, sym, ap, ap₂, ◌∙◌, subst, arith, add-one, pow-add, RisesAtMost}
+use Rattle.p3_networks.proofs.Names.{suc-mul, mul-div_cancel, mul-le-mul_left, mul-le-mul_right}
 
 -- one turn more, of size pairs
 pub count_more : (cost n size before now after : ℕ) → now ≤ before + cost * (n * size) → after ≤ now + cost * size → after ≤ before + cost * ((n + 1) * size)

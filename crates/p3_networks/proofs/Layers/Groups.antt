@@ -1,18 +1,13 @@
 -- Layers in groups: the sizes of a piece, and how a group goes from layer to layer and from piece to piece.
-use Rattle.std.proofs.Common.{◌≡◌, ℕ, ◌+◌, ◌*◌, ◌-◌, ◌/◌, ◌%◌, ◌<◌, ◌≤◌, ◌^◌, List, length, get_or, refl, sym, ap, ap₂}
-use Rattle.std.proofs.Common.{◌∙◌, subst, arith, lit≤, min, ⊎_elim, inl, inr}
-use Rattle.std.proofs.Math.Nat.{div-le_self, mul-le-mul, mul-le-mul_left, mul-le-mul_right, pow-le-pow_right}
-use Rattle.std.proofs.lemmas.Bool.{cases_lt}
-use Rattle.std.proofs.lemmas.Nat.{div-add-mod', div_below, mod_below, one_shl, pow-add, pow_pos}
-use Rattle.p3_matrix.proofs.TwoPowers.{log_lt}
-use Rattle.p3_networks.specs.Counts.{RisesAtMost}
-use Rattle.p3_networks.specs.Groups.{AreLayersInOrder, HoldsColumns, IsGroupChunk, TakesColumns, cells_of, layer_of, group_end, group_of}
-use Rattle.p3_networks.specs.Layers.{HoldsCells, IsLayer}
-use Rattle.p3_networks.specs.declared.groups.Order.{Order}
-use Rattle.p3_networks.specs.declared.groups.Order.TheVariants.{LargestFirst, SmallestFirst}
+use Rattle.p3_networks.proofs.Names.{◌≡◌, ℕ, ◌+◌, ◌*◌, ◌-◌, ◌/◌, ◌%◌, ◌<◌, ◌≤◌, ◌^◌, List, length, get_or, refl, sym, ap, ap₂, ◌∙◌, subst, arith, lit≤, min}
+use Rattle.p3_networks.proofs.Names.{⊎_elim, inl, inr, div-le_self, mul-le-mul, mul-le-mul_left, mul-le-mul_right, pow-le-pow_right, cases_lt, div-add-mod'}
+use Rattle.p3_networks.proofs.Names.{div_below, mod_below, one_shl, pow-add, pow_pos, log_lt, RisesAtMost, AreLayersInOrder, HoldsColumns, IsGroupChunk}
+use Rattle.p3_networks.proofs.Names.{TakesColumns, cells_of, layer_of, group_end, group_of, HoldsCells, IsLayer}
 use Rattle.p3_networks.proofs.Layers.Blocks.{halves_whole, row_below}
 use Rattle.p3_networks.proofs.Layers.Chunks.{chunk_sizes}
 use Rattle.p3_networks.proofs.Layers.Shifts.{one_shifted}
+use Rattle.p3_networks.specs.declared.groups.Order.{Order}
+use Rattle.p3_networks.specs.declared.groups.Order.TheVariants.{LargestFirst, SmallestFirst}
 
 -- the sizes of layer e of a group on a chunk, as a program has them by shifts
 pub record PieceSizes (from to e number w half blocks part : ℕ) : Type 0 where

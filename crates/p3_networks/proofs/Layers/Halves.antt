@@ -1,9 +1,7 @@
 -- Blocks of two halves, cell by cell: what is said of the rows of the halves is said of the block's cells.
-use Rattle.std.proofs.Common.{◌≡◌, ℕ, suc, ◌+◌, ◌*◌, ◌-◌, ◌/◌, ◌%◌, ◌^◌, ◌++◌, ◌<◌, ◌≤◌, List, length, get_or, take, drop, ap, ap₂, ◌∙◌, arith, rules, subst}
-use Rattle.std.proofs.lemmas.List.{places}
-use Rattle.std.proofs.lemmas.Nat.{div-add-mod', div_below, mod_below, one_shl, pow_pos}
-use Rattle.std.proofs.Math.Nat.{add-sub_cancel_left, mul-div_cancel, mul-le-mul_right}
-use Rattle.p3_matrix.proofs.Rows.Overwritten.{part_size}
+use Rattle.p3_networks.proofs.Names.{◌≡◌, ℕ, suc, ◌+◌, ◌*◌, ◌-◌, ◌/◌, ◌%◌, ◌^◌, ◌++◌, ◌<◌, ◌≤◌, List, length, get_or, take, drop, ap, ap₂, ◌∙◌, arith, rules}
+use Rattle.p3_networks.proofs.Names.{subst, places, div-add-mod', div_below, mod_below, one_shl, pow_pos, add-sub_cancel_left, mul-div_cancel, mul-le-mul_right}
+use Rattle.p3_networks.proofs.Names.{part_size}
 use Rattle.p3_networks.proofs.Layers.Shifts.{one_shifted}
 
 -- a place in a list of two parts

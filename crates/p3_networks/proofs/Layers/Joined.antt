@@ -1,14 +1,7 @@
 -- A chunk whose halves go through their layers by themselves, and the layer that joins them, by decimation in frequency, with a scale.
-use Rattle.std.proofs.Common.{◌≡◌, ℕ, ◌+◌, ◌*◌, ◌-◌, ◌/◌, ◌++◌, ◌<◌, ◌≤◌, ◌^◌, List, length, get_or, take, drop, sym}
-use Rattle.std.proofs.Common.{ap, ap₂, ◌∙◌, refl, [], ◌∷◌, subst, arith, rules, length-append, ⊎_elim}
-use Rattle.std.proofs.lemmas.Bool.{cases_lt}
-use Rattle.std.proofs.lemmas.List.{places}
-use Rattle.std.proofs.lemmas.Nat.{pow_pos}
-use Rattle.std.proofs.Math.Nat.{mul-le-mul_left}
-use Rattle.p3_field.specs.Ring.{Ring}
-use Rattle.p3_field.proofs.RingSolver.{solve, va, vb, vc, vd, ◌⊞◌, ◌⊟◌, ◌⊠◌}
-use Rattle.p3_matrix.specs.Butterflies.{dif_far, dif_near}
-use Rattle.p3_networks.specs.Layers.{AreLayers, HoldsCells}
+use Rattle.p3_networks.proofs.Names.{◌≡◌, ℕ, ◌+◌, ◌*◌, ◌-◌, ◌/◌, ◌++◌, ◌<◌, ◌≤◌, ◌^◌, List, length, get_or, take, drop, sym, ap, ap₂, ◌∙◌, refl, [], ◌∷◌, subst}
+use Rattle.p3_networks.proofs.Names.{arith, rules, length-append, ⊎_elim, cases_lt, places, pow_pos, mul-le-mul_left, Ring, solve, va, vb, vc, vd, ◌⊞◌, ◌⊟◌}
+use Rattle.p3_networks.proofs.Names.{◌⊠◌, dif_far, dif_near, AreLayers, HoldsCells}
 use Rattle.p3_networks.proofs.Layers.Chunks.{blocks_within, chunk_within}
 use Rattle.p3_networks.proofs.Layers.Counts.{two_halves}
 use Rattle.p3_networks.proofs.Layers.Halves.{in_first, in_second}

@@ -1,10 +1,9 @@
 -- Layers of a chunk, one after another in an order.
-use Rattle.std.proofs.Common.{◌≡◌, ℕ, ◌+◌, ◌*◌, ◌-◌, ◌<◌, ◌≤◌, ◌^◌, List, length, sym, subst, arith}
-use Rattle.p3_networks.specs.Groups.{TakesCells, cells_of, layer_of}
-use Rattle.p3_networks.specs.Layers.{AreLayers, HoldsCells}
+use Rattle.p3_networks.proofs.Names.{◌≡◌, ℕ, ◌+◌, ◌*◌, ◌-◌, ◌<◌, ◌≤◌, ◌^◌, List, length, sym, subst, arith, TakesCells, cells_of, layer_of, AreLayers}
+use Rattle.p3_networks.proofs.Names.{HoldsCells}
+use Rattle.p3_networks.proofs.Layers.Chunks.{held_as_long}
 use Rattle.p3_networks.specs.declared.groups.Order.{Order}
 use Rattle.p3_networks.specs.declared.groups.Order.TheVariants.{LargestFirst, SmallestFirst}
-use Rattle.p3_networks.proofs.Layers.Chunks.{held_as_long}
 
 module _ {T A : Type 0} (value : T → A) (d : T) (w top number : ℕ) (near far : ℕ → A → A → A) where
   -- the chunk is led from some cells to others

@@ -1,10 +1,6 @@
 -- Pairs of entries that lie one after another, of which a pack has some: each is done by itself.
-use Rattle.std.proofs.Common.{◌≡◌, ℕ, ◌+◌, ◌*◌, ◌-◌, ◌/◌, ◌%◌, ◌<◌, ◌≤◌, ◌++◌, List, length, get_or, map, take, drop, sym, ap, ◌∙◌, arith, rules, ⊎_elim}
-use Rattle.std.proofs.lemmas.Bool.{cases_lt}
-use Rattle.std.proofs.lemmas.List.{get_or-map, places}
-use Rattle.std.proofs.lemmas.Nat.{div-add-mod', div_below, mod_below}
-use Rattle.p3_networks.specs.Chunks.{chunk_of}
-use Rattle.p3_networks.specs.Layers.{MeetInPairs}
+use Rattle.p3_networks.proofs.Names.{◌≡◌, ℕ, ◌+◌, ◌*◌, ◌-◌, ◌/◌, ◌%◌, ◌<◌, ◌≤◌, ◌++◌, List, length, get_or, map, take, drop, sym, ap, ◌∙◌, arith, rules, ⊎_elim}
+use Rattle.p3_networks.proofs.Names.{cases_lt, get_or-map, places, div-add-mod', div_below, mod_below, chunk_of, MeetInPairs}
 use Rattle.p3_networks.proofs.Layers.Halves.{in_first, in_second}
 use Rattle.p3_networks.proofs.Rows.EachChunk.{chunk_at}
 

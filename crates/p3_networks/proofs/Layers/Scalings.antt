@@ -1,11 +1,7 @@
 -- Entries that are multiplied by a first factor and the powers of a base: in two parts, by packs, and by columns.
-use Rattle.std.proofs.Common.{◌≡◌, ℕ, ◌+◌, ◌*◌, ◌-◌, ◌/◌, ◌%◌, ◌<◌, ◌≤◌, List, ◌++◌, length, get_or, take, drop, map}
-use Rattle.std.proofs.Common.{sym, ap, ap₂, ◌∙◌, arith, subst, ⊎_elim, mod-lt}
-use Rattle.std.proofs.lemmas.Bool.{cases_lt}
-use Rattle.std.proofs.lemmas.List.{get_or_append_left, get_or-append-add, get_or-map, length-append, length-map, map-append, take-append-drop}
-use Rattle.std.proofs.Math.Nat.{div-add-mod, lt_of_mul-lt-mul_right}
-use Rattle.p3_field.specs.Ring.{Ring, power}
-use Rattle.p3_field.proofs.Powers.{power-add, power-mul, power_of_product}
+use Rattle.p3_networks.proofs.Names.{◌≡◌, ℕ, ◌+◌, ◌*◌, ◌-◌, ◌/◌, ◌%◌, ◌<◌, ◌≤◌, List, ◌++◌, length, get_or, take, drop, map, sym, ap, ap₂, ◌∙◌, arith, subst}
+use Rattle.p3_networks.proofs.Names.{⊎_elim, mod-lt, cases_lt, get_or_append_left, get_or-append-add, get_or-map, length-append, length-map, map-append}
+use Rattle.p3_networks.proofs.Names.{take-append-drop, div-add-mod, lt_of_mul-lt-mul_right, Ring, power, power-add, power-mul, power_of_product}
 use Rattle.p3_networks.proofs.Layers.Halves.{block_size}
 
 module _ {A : Type 0} (R : Ring A) where

@@ -1,6 +1,5 @@
 -- The sizes of a layer, as a program has them by shifts: l of k layers are done.
-use Rattle.std.proofs.Common.{◌≡◌, ℕ, ◌+◌, ◌*◌, ◌-◌, ◌%◌, ◌^◌, ◌<◌, ◌≤◌, sym, ap, ◌∙◌, arith}
-use Rattle.std.proofs.lemmas.Nat.{one_shl, pow_pos}
+use Rattle.p3_networks.proofs.Names.{◌≡◌, ℕ, ◌+◌, ◌*◌, ◌-◌, ◌%◌, ◌^◌, ◌<◌, ◌≤◌, sym, ap, ◌∙◌, arith, one_shl, pow_pos}
 use Rattle.p3_networks.proofs.Layers.Blocks.{halves_whole, blocks_whole}
 use Rattle.p3_networks.proofs.Layers.Shifts.{one_shifted}
 

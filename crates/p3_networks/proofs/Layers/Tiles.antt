@@ -1,14 +1,11 @@
 -- Chunks of rows one after another, each done by itself.
-use Rattle.std.proofs.Common.{◌≡◌, ℕ, suc, ◌+◌, ◌*◌, ◌-◌, ◌/◌, ◌%◌, ◌<◌, ◌≤◌, ◌^◌, List, length, get_or, sym, ap, ap₂, ◌∙◌, arith, lit≤}
-use Rattle.std.proofs.Math.Nat.{mul-le-mul, mul-le-mul_right, pow-le-pow_right}
-use Rattle.std.proofs.lemmas.Nat.{one_shl, pow-add, pow_pos, div-add-mod', div_below, mod_below}
-use Rattle.p3_networks.specs.Chunks.{chunk_of}
-use Rattle.p3_networks.specs.Groups.{AreLayersInOrder, TakesCells}
-use Rattle.p3_networks.specs.Layers.{HoldsCells}
-use Rattle.p3_networks.specs.declared.groups.Order.{Order}
+use Rattle.p3_networks.proofs.Names.{◌≡◌, ℕ, suc, ◌+◌, ◌*◌, ◌-◌, ◌/◌, ◌%◌, ◌<◌, ◌≤◌, ◌^◌, List, length, get_or, sym, ap, ap₂, ◌∙◌, arith, lit≤, mul-le-mul}
+use Rattle.p3_networks.proofs.Names.{mul-le-mul_right, pow-le-pow_right, one_shl, pow-add, pow_pos, div-add-mod', div_below, mod_below, chunk_of}
+use Rattle.p3_networks.proofs.Names.{AreLayersInOrder, TakesCells, HoldsCells}
 use Rattle.p3_networks.proofs.Layers.Halves.{block_room, block_size}
 use Rattle.p3_networks.proofs.Rows.EachChunk.{cells_of_chunks}
 use Rattle.p3_networks.proofs.Layers.Shifts.{one_shifted}
+use Rattle.p3_networks.specs.declared.groups.Order.{Order}
 
 -- the sizes of tiles of 2 ^ r of the 2 ^ k rows, as a program has them
 pub record TileSizes (k r w tiles size len : ℕ) : Type 0 where

@@ -1,18 +1,12 @@
 -- The cells of a network whose rows hold a formula: layers that follow one another, taken in the order in which the cells lie.
-use Rattle.std.proofs.Common.{◌≡◌, ℕ, suc, ◌+◌, ◌*◌, ◌-◌, ◌/◌, ◌%◌, ◌<◌, ◌≤◌, ◌^◌, refl, sym, ap, ap₂, ◌∙◌, subst, arith, add-one}
-use Rattle.std.proofs.lemmas.Nat.{div-add-mod', div_below, div-mul-add, mod-mul-add, mod_below}
-use Rattle.p3_field.specs.Ring.{Ring, power, AreRoots}
-use Rattle.p3_field.proofs.Rings
-use Rattle.p3_field.proofs.Powers.{power-mul, power_of_one}
-use Rattle.p3_matrix.specs.BitOrder.{rev}
-use Rattle.p3_matrix.specs.Butterflies.{dif_far, dif_near, dit_far, dit_near}
-use Rattle.p3_networks.specs.Layers.{AreLayers}
-use Rattle.p3_matrix.specs.Polynomials.{poly}
+use Rattle.p3_networks.proofs.Names.{◌≡◌, ℕ, suc, ◌+◌, ◌*◌, ◌-◌, ◌/◌, ◌%◌, ◌<◌, ◌≤◌, ◌^◌, refl, sym, ap, ap₂, ◌∙◌, subst, arith, add-one, div-add-mod'}
+use Rattle.p3_networks.proofs.Names.{div_below, div-mul-add, mod-mul-add, mod_below, Ring, power, AreRoots, power-mul, power_of_one, rev, dif_far, dif_near}
+use Rattle.p3_networks.proofs.Names.{dit_far, dit_near, AreLayers, poly, point_of_one}
 use Rattle.p3_networks.proofs.Networks.Formulas.{Formula}
 use Rattle.p3_networks.proofs.Networks.HighRows.{high_row, high_rows, high_start, high_end}
 use Rattle.p3_networks.proofs.Networks.Stages.{twiddle, twiddle_of_one}
 use Rattle.p3_networks.proofs.Networks.TwistedRows.{twisted_row, twisted_row_of_zeros, twisted_rows, twisted_row_start, twisted_row_end}
-use Rattle.p3_matrix.proofs.Polynomials.Cosets.{point_of_one}
+use Rattle.p3_field.proofs.Rings
 
 together : {A : Type 0} (f : A → A → A → A) {x y p q u v : A} → x ≡ y → p ≡ u → q ≡ v → f x p q ≡ f y u v
 together f {y = y} {p = p} {q = q} e c d = ap (λ z. f z p q) e ∙ ap₂ (f y) c d

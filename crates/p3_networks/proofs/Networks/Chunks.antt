@@ -1,16 +1,8 @@
 -- Chunks of rows: a network in two halves. Of 2 ^ (mid + left) rows, a chunk of the second half has 2 ^ left rows that follow one another.
-use Rattle.std.proofs.Common.{◌≡◌, ℕ, zero, suc, ◌+◌, ◌*◌, ◌-◌, ◌/◌, ◌%◌, ◌<◌, ◌≤◌, ◌^◌, List, get_or, refl, sym, ap, ap₂, ◌∙◌, [], ◌∷◌, arith}
-use Rattle.std.proofs.lemmas.Nat.{pow-add, pow_pos, div-add-mod', div_below, mod_below}
-use Rattle.p3_field.specs.Ring.{Ring, power, AreRoots}
-use Rattle.p3_field.proofs.RingSolver.{solve, va, vb, vc, ◌⊠◌}
-use Rattle.p3_field.proofs.Powers.{power-add, power-mul, power_of_product}
-use Rattle.p3_field.proofs.Roots.{root_strided, root_all}
-use Rattle.p3_matrix.specs.BitOrder.{rev}
-use Rattle.p3_matrix.proofs.BitReversal.{rev-block, rev-lt, rev-rev}
-use Rattle.p3_matrix.specs.Cosets.{point}
-use Rattle.p3_matrix.specs.Polynomials.{poly}
-use Rattle.p3_matrix.proofs.Polynomials.ByIndex.{poly_same, poly-add, poly-append, poly-none, poly-times, poly_zeros}
-use Rattle.p3_matrix.proofs.Polynomials.Cosets.{point-mul}
+use Rattle.p3_networks.proofs.Names.{◌≡◌, ℕ, zero, suc, ◌+◌, ◌*◌, ◌-◌, ◌/◌, ◌%◌, ◌<◌, ◌≤◌, ◌^◌, List, get_or, refl, sym, ap, ap₂, ◌∙◌, [], ◌∷◌, arith, pow-add}
+use Rattle.p3_networks.proofs.Names.{pow_pos, div-add-mod', div_below, mod_below, Ring, power, AreRoots, solve, va, vb, vc, ◌⊠◌, power-add, power-mul}
+use Rattle.p3_networks.proofs.Names.{power_of_product, root_strided, root_all, rev, rev-block, rev-lt, rev-rev, point, poly, poly_same, poly-add, poly-append}
+use Rattle.p3_networks.proofs.Names.{poly-none, poly-times, poly_zeros, point-mul}
 use Rattle.p3_networks.proofs.Networks.Stages.{twiddle}
 
 -- the digits of a row of a chunk, in reverse

@@ -1,23 +1,13 @@
 -- Both halves of a network on a coset, by the table of the coset: it reaches for both, and where the rows lead from one half to the other they
 -- are values in the end. The first half takes the larger half of the layers.
-use Rattle.std.specs.Prelude.{⊤}
-use Rattle.std.proofs.Common.{◌≡◌, ℕ, ◌+◌, ◌*◌, ◌-◌, ◌/◌, ◌^◌, ◌≤◌, List, get_or, Result, sym, ap, ◌∙◌, arith}
-use Rattle.std.proofs.lemmas.Result.{MatchResult-weaker}
-use Rattle.p3_field.specs.Ring.{AreRoots}
-use Rattle.p3_field.specs.declared.fields.Valued.{Ghosts as FieldMembers}
-use Rattle.p3_matrix.specs.BitOrder.{rev, mid_of}
-use Rattle.p3_matrix.specs.Cosets.{point}
-use Rattle.p3_matrix.specs.Polynomials.{poly}
-use Rattle.p3_matrix.specs.RowMajor.{RowMajor}
-use Rattle.p3_networks.specs.Counts.{RisesAtMost}
-use Rattle.p3_networks.specs.Halves.{IsHighHalf, IsLowHalf}
-use Rattle.p3_networks.specs.Layers.{AreRows}
-use Rattle.p3_networks.specs.Slots.{HasRowsOnCoset, LentInBlocks}
-use Rattle.p3_networks.specs.Twiddles.{by_layer, IsCosetTable, forward_root}
+use Rattle.p3_networks.proofs.Names.{⊤, ◌≡◌, ℕ, ◌+◌, ◌*◌, ◌-◌, ◌/◌, ◌^◌, ◌≤◌, List, get_or, Result, sym, ap, ◌∙◌, arith, MatchResult-weaker, AreRoots, rev}
+use Rattle.p3_networks.proofs.Names.{mid_of, point, poly, RowMajor, RisesAtMost, IsHighHalf, IsLowHalf, AreRows, HasRowsOnCoset, LentInBlocks, by_layer}
+use Rattle.p3_networks.proofs.Names.{IsCosetTable, forward_root}
 use Rattle.p3_networks.proofs.Layers.Counts.{halves_counted}
 use Rattle.p3_networks.proofs.Networks.Chunks.{rows_of_halves}
 use Rattle.p3_networks.proofs.Tables.CosetTables.{high_of_coset, low_of_coset}
 use Rattle.p3_networks.proofs.Tables.RootPowers.{fewer_roots}
+use Rattle.p3_field.specs.declared.fields.Valued.{Ghosts as FieldMembers}
 
 -- the layers of both halves, and the chunks of the second
 pub halves_whole : (k : ℕ) → mid_of k + (k - mid_of k) ≡ k

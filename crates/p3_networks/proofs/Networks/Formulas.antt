@@ -1,7 +1,5 @@
 -- Formulas that layers take on: what each row holds when some layers are done and some are left, and what meets what in between.
-use Rattle.std.proofs.Common.{◌≡◌, ℕ, suc, ◌+◌, ◌*◌, ◌-◌, ◌/◌, ◌<◌, ◌≤◌, ◌^◌, sym, ap, ap₂, ◌∙◌, subst, arith, add-one}
-use Rattle.std.proofs.lemmas.Nat.{div-mul-add}
-use Rattle.p3_networks.specs.Layers.{IsLayer, MeetHalves}
+use Rattle.p3_networks.proofs.Names.{◌≡◌, ℕ, suc, ◌+◌, ◌*◌, ◌-◌, ◌/◌, ◌<◌, ◌≤◌, ◌^◌, sym, ap, ap₂, ◌∙◌, subst, arith, add-one, div-mul-add, IsLayer, MeetHalves}
 use Rattle.p3_networks.proofs.Layers.Blocks.{row_below, each_row}
 
 -- Row r holds `rows l m r` when l layers are done and m are left. In the layer from l to l + 1 the rows come in blocks of two halves, of

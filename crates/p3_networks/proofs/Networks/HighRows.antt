@@ -1,12 +1,6 @@
 -- High rows: j stands in the low m digits of a row's number, and t reversed in the l others. Decimation in time from natural order.
-use Rattle.std.proofs.Common.{◌≡◌, ℕ, suc, ◌+◌, ◌*◌, ◌<◌, ◌/◌, ◌%◌, ◌^◌, sym, ap, ap₂, ◌∙◌, arith, mod-eq_of_lt}
-use Rattle.std.proofs.lemmas.Nat.{div-mul-add, mod-mul-add}
-use Rattle.p3_field.specs.Ring.{Ring, AreRoots}
-use Rattle.p3_matrix.specs.BitOrder.{rev}
-use Rattle.p3_matrix.specs.Butterflies.{dit_near, dit_far}
-use Rattle.p3_matrix.proofs.BitReversal.{rev-even, rev-odd}
-use Rattle.p3_matrix.specs.Polynomials.{poly}
-use Rattle.p3_matrix.specs.Cosets.{point}
+use Rattle.p3_networks.proofs.Names.{◌≡◌, ℕ, suc, ◌+◌, ◌*◌, ◌<◌, ◌/◌, ◌%◌, ◌^◌, sym, ap, ap₂, ◌∙◌, arith, mod-eq_of_lt, div-mul-add, mod-mul-add, Ring}
+use Rattle.p3_networks.proofs.Names.{AreRoots, rev, dit_near, dit_far, rev-even, rev-odd, poly, point}
 use Rattle.p3_networks.proofs.Networks.Formulas.{Formula}
 use Rattle.p3_networks.proofs.Networks.Stages.{stage, twiddle, stage_start, stage_end, stage_near, stage_far}
 

@@ -1,21 +1,12 @@
 -- Both halves of the rows as networks of their own, and then the layer that joins them.
-use Rattle.std.proofs.Common.{◌≡◌, ℕ, ◌+◌, ◌*◌, ◌-◌, ◌/◌, ◌^◌, ◌++◌, ◌<◌, List, length, get_or, take, drop, sym, ap, ap₂, ◌∙◌, arith, rules, ⊎_elim}
-use Rattle.std.proofs.lemmas.Bool.{cases_lt}
-use Rattle.std.proofs.lemmas.List.{places}
-use Rattle.std.proofs.Math.Nat.{mul-div_cancel}
-use Rattle.p3_field.specs.Ring.{power}
-use Rattle.p3_field.specs.declared.fields.Valued.{Ghosts as FieldMembers}
-use Rattle.p3_field.proofs.Rings
-use Rattle.p3_field.proofs.Powers.{power_of_one}
-use Rattle.p3_matrix.specs.BitOrder.{rev}
-use Rattle.p3_matrix.proofs.BitReversal.{rev-lt}
-use Rattle.p3_matrix.specs.Polynomials.{poly}
-use Rattle.p3_matrix.proofs.Polynomials.ByIndex.{poly_same}
-use Rattle.p3_networks.specs.Layers.{AreValuesOfRows}
+use Rattle.p3_networks.proofs.Names.{◌≡◌, ℕ, ◌+◌, ◌*◌, ◌-◌, ◌/◌, ◌^◌, ◌++◌, ◌<◌, List, length, get_or, take, drop, sym, ap, ap₂, ◌∙◌, arith, rules, ⊎_elim}
+use Rattle.p3_networks.proofs.Names.{cases_lt, places, mul-div_cancel, power, power_of_one, rev, rev-lt, poly, poly_same, AreValuesOfRows}
 use Rattle.p3_networks.proofs.Layers.Blocks.{row_below}
 use Rattle.p3_networks.proofs.Layers.Counts.{two_halves}
 use Rattle.p3_networks.proofs.Layers.Halves.{in_first, in_second}
 use Rattle.p3_networks.proofs.Networks.LowRows.{low_row, low_chunk}
+use Rattle.p3_field.specs.declared.fields.Valued.{Ghosts as FieldMembers}
+use Rattle.p3_field.proofs.Rings
 
 -- half of the cells
 pub half_size : (k w len : ℕ) → 0 < k → len ≡ 2 ^ k * w → len / 2 ≡ 2 ^ (k - 1) * w

@@ -1,18 +1,10 @@
 -- The layers of the low rows as a program does them, on rows of w entries by a table of twiddles: before the first, one after another, and after the last.
-use Rattle.std.proofs.Common.{◌≡◌, ℕ, ◌+◌, ◌*◌, ◌-◌, ◌/◌, ◌^◌, ◌<◌, sym, ap, ap₂, ◌∙◌, subst, arith}
-use Rattle.std.proofs.Math.Nat.{div-eq_of_lt}
-use Rattle.p3_field.specs.Ring.{AreRoots}
-use Rattle.p3_field.specs.declared.fields.Valued.{Ghosts as FieldMembers}
-use Rattle.p3_matrix.specs.BitOrder.{rev}
-use Rattle.p3_matrix.specs.Butterflies.{dit_near, dit_far}
-use Rattle.p3_matrix.proofs.BitReversal.{rev-rev}
-use Rattle.p3_matrix.specs.Cosets.{point}
-use Rattle.p3_matrix.specs.Polynomials.{poly}
-use Rattle.p3_networks.specs.Layers.{IsLayer}
-use Rattle.p3_networks.specs.Halves.{AreLowTwiddles}
+use Rattle.p3_networks.proofs.Names.{◌≡◌, ℕ, ◌+◌, ◌*◌, ◌-◌, ◌/◌, ◌^◌, ◌<◌, sym, ap, ap₂, ◌∙◌, subst, arith, div-eq_of_lt, AreRoots, rev, dit_near, dit_far}
+use Rattle.p3_networks.proofs.Names.{rev-rev, point, poly, IsLayer, AreLowTwiddles}
 use Rattle.p3_networks.proofs.Networks.Formulas.{whole_layer_taken}
 use Rattle.p3_networks.proofs.Networks.LowRows.{low_row, low_rows, low_start, low_end}
 use Rattle.p3_networks.proofs.Networks.Stages.{twiddle, twiddle_is}
+use Rattle.p3_field.specs.declared.fields.Valued.{Ghosts as FieldMembers}
 
 module _ {F : Type 0} (field : FieldMembers F) (root : ℕ → field.Element) (s : field.Element) (k w : ℕ) where
   -- of rows in bit reversed order, before a layer

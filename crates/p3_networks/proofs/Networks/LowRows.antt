@@ -1,13 +1,6 @@
 -- Low rows: t stands in the low l digits of a row's number, and j reversed in the m others. Decimation in time from reversed rows.
-use Rattle.std.proofs.Common.{◌≡◌, ℕ, suc, ◌+◌, ◌*◌, ◌<◌, ◌/◌, ◌%◌, ◌^◌, sym, ap, ap₂, ◌∙◌, arith, mod-eq_of_lt}
-use Rattle.std.proofs.lemmas.Nat.{div-mul-add, mod-mul-add}
-use Rattle.p3_field.specs.Ring.{Ring, AreRoots, power}
-use Rattle.p3_matrix.specs.BitOrder.{rev}
-use Rattle.p3_matrix.specs.Butterflies.{dit_near, dit_far}
-use Rattle.p3_matrix.proofs.BitReversal.{rev-block, rev-lt, rev-rev, rev-zero, rev-even, rev-odd}
-use Rattle.p3_matrix.specs.Polynomials.{poly}
-use Rattle.p3_matrix.proofs.Polynomials.ByIndex.{poly_same}
-use Rattle.p3_matrix.specs.Cosets.{point}
+use Rattle.p3_networks.proofs.Names.{◌≡◌, ℕ, suc, ◌+◌, ◌*◌, ◌<◌, ◌/◌, ◌%◌, ◌^◌, sym, ap, ap₂, ◌∙◌, arith, mod-eq_of_lt, div-mul-add, mod-mul-add, Ring}
+use Rattle.p3_networks.proofs.Names.{AreRoots, power, rev, dit_near, dit_far, rev-block, rev-lt, rev-rev, rev-zero, rev-even, rev-odd, poly, poly_same, point}
 use Rattle.p3_networks.proofs.Networks.Formulas.{Formula}
 use Rattle.p3_networks.proofs.Networks.Stages.{stage, twiddle, stage_start, stage_end, stage_near, stage_far}
 

@@ -1,8 +1,6 @@
 -- A butterfly whose outputs are multiplied by a scale is one on inputs that are, and one whose twiddle is one needs none.
-use Rattle.std.proofs.Common.{◌≡◌, refl, sym, ap, ◌∙◌, [], ◌∷◌}
-use Rattle.p3_field.specs.Ring.{Ring, minus}
-use Rattle.p3_field.proofs.RingSolver.{solve, va, vb, vc, vd, ◌⊞◌, ◌⊟◌, ◌⊠◌}
-use Rattle.p3_matrix.specs.Butterflies.{dit_near, dit_far, scaled_dit_near, scaled_dit_far}
+use Rattle.p3_networks.proofs.Names.{◌≡◌, refl, sym, ap, ◌∙◌, [], ◌∷◌, Ring, minus, solve, va, vb, vc, vd, ◌⊞◌, ◌⊟◌, ◌⊠◌, dit_near, dit_far, scaled_dit_near}
+use Rattle.p3_networks.proofs.Names.{scaled_dit_far}
 
 module _ {A : Type 0} (R : Ring A) where
   pub scaled_near : (t s x y : A) → scaled_dit_near R t s x y ≡ dit_near R t (R.mul x s) (R.mul y s)

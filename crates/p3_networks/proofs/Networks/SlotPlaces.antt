@@ -1,26 +1,12 @@
 -- Slots of an extension as rows and cells of one list: their places, their blocks, and what is lent of them so far.
-use Rattle.std.specs.Prelude.{⊤}
-use Rattle.std.proofs.Common.{◌≡◌, ℕ, suc, List, [], ◌∷◌, take, drop, ◌+◌, ◌*◌, ◌-◌, ◌%◌, ◌++◌, ◌<◌, ◌≤◌, ◌^◌}
-use Rattle.std.proofs.Common.{length, get_or, Result, refl, sym, ap, ◌∙◌, subst, arith, le_refl, lt_of_le_of_lt}
-use Rattle.std.proofs.Math.Nat.{mod-eq_of_lt, mul-le-mul_right}
-use Rattle.std.proofs.Math.Pow.{pow-lt}
-use Rattle.std.proofs.lemmas.List.{append-nil, append_assoc, drop_at, take_at}
-use Rattle.std.proofs.lemmas.List.FromFn.{get_or-map-range_with_len, length-map-range_with_len, map-range_with_len_more}
-use Rattle.std.proofs.lemmas.Nat.{pow-add}
-use Rattle.std.proofs.lemmas.Result.{MatchResult-weaker}
-use Rattle.p3_field.specs.Ring.{AreRoots}
-use Rattle.p3_field.specs.declared.fields.Valued.{Ghosts as FieldMembers}
-use Rattle.p3_matrix.specs.BitOrder.{rev, mid_of}
-use Rattle.p3_matrix.specs.Blocks.{AreBlocksOf, Run, RunToRefusal}
-use Rattle.p3_matrix.specs.Matrix.{Matrix, image, matrix}
-use Rattle.p3_matrix.specs.RowMajor.{RowMajor}
-use Rattle.p3_matrix.specs.Cosets.{point}
-use Rattle.p3_matrix.proofs.BitReversal.{rev-lt}
-use Rattle.p3_networks.specs.Chunks.{chunk_of}
-use Rattle.p3_networks.specs.Slots.{HasRowsOnCoset, IsSlot, LentInBlocks, extended_rows, slot_block, slot_blocks}
-use Rattle.p3_networks.specs.Twiddles.{forward_root}
+use Rattle.p3_networks.proofs.Names.{⊤, ◌≡◌, ℕ, suc, List, [], ◌∷◌, take, drop, ◌+◌, ◌*◌, ◌-◌, ◌%◌, ◌++◌, ◌<◌, ◌≤◌, ◌^◌, length, get_or, Result, refl, sym, ap}
+use Rattle.p3_networks.proofs.Names.{◌∙◌, subst, arith, le_refl, lt_of_le_of_lt, mod-eq_of_lt, mul-le-mul_right, pow-lt, append-nil, append_assoc, drop_at}
+use Rattle.p3_networks.proofs.Names.{take_at, get_or-map-range_with_len, length-map-range_with_len, map-range_with_len_more, pow-add, MatchResult-weaker}
+use Rattle.p3_networks.proofs.Names.{AreRoots, rev, mid_of, AreBlocksOf, Run, RunToRefusal, Matrix, image, matrix, RowMajor, point, rev-lt, chunk_of}
+use Rattle.p3_networks.proofs.Names.{HasRowsOnCoset, IsSlot, LentInBlocks, extended_rows, slot_block, slot_blocks, forward_root}
 use Rattle.p3_networks.proofs.Networks.Slots.{of_front, other_rows, others_rows, slot_row}
 use Rattle.p3_networks.proofs.Rows.Lent.{are_blocks, blocks_joined, blocks_kept, blocks_of_part, refusal_joined}
+use Rattle.p3_field.specs.declared.fields.Valued.{Ghosts as FieldMembers}
 
 -- the rows of the first slot have numbers
 pub first_ends : (k a : ℕ) → k + a < 64 → 0 + 2 ^ k < 18446744073709551616

@@ -1,28 +1,14 @@
 -- Slots: chunks of 2 ^ k rows, one after another, 2 ^ a of them, which get the values on a coset each.
-use Rattle.std.proofs.Common.{◌≡◌, ℕ, Fits, w64, List, ◌++◌, ◌+◌, ◌*◌, ◌-◌, ◌/◌, ◌%◌, ◌<◌, ◌≤◌, ◌^◌, length, get_or, sym, ap, ap₂, ◌∙◌, arith, ⊎_elim}
-use Rattle.std.proofs.Math.Nat.{le_refl}
-use Rattle.std.proofs.Math.Pow.{pow-lt}
-use Rattle.std.proofs.lemmas.Bool.{cases_lt}
-use Rattle.std.proofs.lemmas.Nat.{pow-add, pow_pos, div-add-mod', mod_below}
-use Rattle.p3_field.specs.Ring.{AreRoots, Ring, power}
-use Rattle.p3_field.proofs.Powers.{power-zero}
-use Rattle.p3_field.specs.declared.fields.Valued.{Ghosts as FieldMembers}
-use Rattle.p3_matrix.specs.BitOrder.{rev}
-use Rattle.p3_matrix.proofs.BitReversal.{rev_of_zero}
-use Rattle.p3_matrix.specs.Cosets.{point}
-use Rattle.p3_networks.specs.Layers.{AreValuesOfRows}
-use Rattle.p3_matrix.specs.Polynomials.{poly}
-use Rattle.p3_networks.specs.Twiddles.{forward_root}
+use Rattle.p3_networks.proofs.Names.{◌≡◌, ℕ, Fits, w64, List, ◌++◌, ◌+◌, ◌*◌, ◌-◌, ◌/◌, ◌%◌, ◌<◌, ◌≤◌, ◌^◌, length, get_or, sym, ap, ap₂, ◌∙◌, arith, ⊎_elim}
+use Rattle.p3_networks.proofs.Names.{le_refl, pow-lt, cases_lt, pow-add, pow_pos, div-add-mod', mod_below, AreRoots, Ring, power, power-zero, rev, rev_of_zero}
+use Rattle.p3_networks.proofs.Names.{point, AreValuesOfRows, poly, forward_root, poly_same, poly-scaled, point-mul, IsSlot, chunk_of}
 use Rattle.p3_networks.proofs.Layers.Blocks.{row_below}
 use Rattle.p3_networks.proofs.Layers.Halves.{in_first, in_second, shifted_size}
 use Rattle.p3_networks.proofs.Layers.Sizes.{second_shift}
-use Rattle.p3_matrix.proofs.Polynomials.ByIndex.{poly_same, poly-scaled}
-use Rattle.p3_matrix.proofs.Polynomials.Cosets.{point-mul}
 use Rattle.p3_networks.proofs.Layers.Shifts.{one_shifted}
 use Rattle.p3_networks.proofs.Networks.Chunks.{slot_point}
 use Rattle.p3_networks.proofs.Rows.EachChunk.{row_at}
-use Rattle.p3_networks.specs.Slots.{IsSlot}
-use Rattle.p3_networks.specs.Chunks.{chunk_of}
+use Rattle.p3_field.specs.declared.fields.Valued.{Ghosts as FieldMembers}
 
 pub slots_whole : (k a w : ℕ) → 2 ^ (k + a) * w ≡ 2 ^ a * (2 ^ k * w)
 slots_whole k a w = ap (λ n. n * w) (pow-add 2 k a) ∙ omega arith

@@ -2,19 +2,10 @@
 -- the value, at the t-th point of size 2 ^ l, of the polynomial of every 2 ^ m-th coefficient from the j-th on.
 -- The networks differ only in where j and t stand in the row's number, and in a factor. The shift s is that of the coset. The roots are any
 -- that square to one another: with the inverse roots a network is the inverse one.
-use Rattle.std.proofs.Common.{◌≡◌, ℕ, suc, ◌+◌, ◌*◌, ◌-◌, ◌<◌, ◌≤◌, ◌^◌, refl, sym, ap, ap₂, ◌∙◌, [], ◌∷◌, arith, add-one}
-use Rattle.std.proofs.Math.Nat.{mul-le-mul_right}
-use Rattle.std.proofs.lemmas.Nat.{pow_pos}
-use Rattle.p3_field.specs.Ring.{Ring, power, AreRoots}
+use Rattle.p3_networks.proofs.Names.{◌≡◌, ℕ, suc, ◌+◌, ◌*◌, ◌-◌, ◌<◌, ◌≤◌, ◌^◌, refl, sym, ap, ap₂, ◌∙◌, [], ◌∷◌, arith, add-one, mul-le-mul_right, pow_pos}
+use Rattle.p3_networks.proofs.Names.{Ring, power, AreRoots, solve, va, vb, ◌⊠◌, power-one, power-add, power_of_one, root_squared, root_across, root_round}
+use Rattle.p3_networks.proofs.Names.{dit_near, dit_far, poly, point, point-mul, poly-one, poly_padded, poly_same, poly-split}
 use Rattle.p3_field.proofs.Rings
-use Rattle.p3_field.proofs.RingSolver.{solve, va, vb, ◌⊠◌}
-use Rattle.p3_field.proofs.Powers.{power-one, power-add, power_of_one}
-use Rattle.p3_field.proofs.Roots.{root_squared, root_across, root_round}
-use Rattle.p3_matrix.specs.Butterflies.{dit_near, dit_far}
-use Rattle.p3_matrix.specs.Polynomials.{poly}
-use Rattle.p3_matrix.specs.Cosets.{point}
-use Rattle.p3_matrix.proofs.Polynomials.Cosets.{point-mul}
-use Rattle.p3_matrix.proofs.Polynomials.ByIndex.{poly-one, poly_padded, poly_same, poly-split}
 
 module _ {A : Type 0} (R : Ring A) (g : ℕ → A) (s : A) where
   open R use {add as ◌⊕◌, mul as ◌⊗◌, neg, zero as 𝟘, one as 𝟙}

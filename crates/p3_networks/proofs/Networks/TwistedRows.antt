@@ -1,18 +1,11 @@
 -- Twisted rows: low rows with a factor. Decimation in frequency from reversed rows.
-use Rattle.std.proofs.Common.{◌≡◌, ℕ, suc, ◌+◌, ◌*◌, ◌<◌, ◌≤◌, ◌^◌, ◌/◌, ◌%◌, refl, sym, ap, ap₂, ◌∙◌, [], ◌∷◌, arith, mod-eq_of_lt}
-use Rattle.p3_field.specs.Ring.{Ring, power, AreRoots}
-use Rattle.p3_field.proofs.Rings
-use Rattle.p3_field.proofs.RingSolver.{solve, va, vb, vc, vd, ◌⊠◌, ◌⊟◌}
-use Rattle.p3_field.proofs.Powers.{power-zero, power-one, power-add, power_of_product, power-mul}
-use Rattle.p3_field.proofs.Roots.{root_strided}
-use Rattle.p3_matrix.specs.BitOrder.{rev}
-use Rattle.p3_matrix.specs.Butterflies.{dif_near, dif_far}
-use Rattle.p3_matrix.proofs.BitReversal.{rev-zero}
-use Rattle.p3_matrix.specs.Polynomials.{poly}
-use Rattle.p3_matrix.specs.Cosets.{point}
+use Rattle.p3_networks.proofs.Names.{◌≡◌, ℕ, suc, ◌+◌, ◌*◌, ◌<◌, ◌≤◌, ◌^◌, ◌/◌, ◌%◌, refl, sym, ap, ap₂, ◌∙◌, [], ◌∷◌, arith, mod-eq_of_lt, Ring, power}
+use Rattle.p3_networks.proofs.Names.{AreRoots, solve, va, vb, vc, vd, ◌⊠◌, ◌⊟◌, power-zero, power-one, power-add, power_of_product, power-mul, root_strided}
+use Rattle.p3_networks.proofs.Names.{rev, dif_near, dif_far, rev-zero, poly, point}
 use Rattle.p3_networks.proofs.Networks.Formulas.{Formula}
 use Rattle.p3_networks.proofs.Networks.LowRows.{held_low, held_low_at, held_first, held_second, held_next}
 use Rattle.p3_networks.proofs.Networks.Stages.{stage, twiddle, stage_of_zeros, stage_start, stage_end, stage_near, stage_far}
+use Rattle.p3_field.proofs.Rings
 
 module _ {A : Type 0} (R : Ring A) (g : ℕ → A) (s : A) where
   open R use {add as ◌⊕◌, mul as ◌⊗◌, neg, zero as 𝟘, one as 𝟙}

@@ -1,18 +1,10 @@
 -- Work that is done on the chunks of a list, one after another.
-use Rattle.std.proofs.Common.{◌≡◌, ℕ, ◌+◌, ◌*◌, ◌-◌, ◌/◌, ◌%◌, ◌<◌, ◌≤◌, List, length, get_or, take, drop, refl, sym, ap, ap₂, ◌∙◌, subst, arith, ⊎_elim}
-use Rattle.std.proofs.lemmas.Bool.{cases_lt}
-use Rattle.std.proofs.lemmas.List.{drop-drop, ext_get_or}
-use Rattle.std.proofs.lemmas.Nat.{div-add-mod', div_below, mod_below}
-use Rattle.std.proofs.Math.Nat.{add-sub_cancel_left}
-use borrow.Rule.Slice.PartMut.{drop_put, put_mid}
-use Rattle.p3_field.specs.Ring.{Ring}
-use Rattle.p3_matrix.specs.Polynomials.{poly}
-use Rattle.p3_matrix.proofs.Polynomials.ByIndex.{poly_same}
-use Rattle.p3_matrix.proofs.Rows.Overwritten.{part_at, part_size, put_before, put_in, put_length}
-use Rattle.p3_networks.specs.Chunks.{chunk_of}
-use Rattle.p3_networks.specs.Layers.{HoldsCells, MeetHalves}
+use Rattle.p3_networks.proofs.Names.{◌≡◌, ℕ, ◌+◌, ◌*◌, ◌-◌, ◌/◌, ◌%◌, ◌<◌, ◌≤◌, List, length, get_or, take, drop, refl, sym, ap, ap₂, ◌∙◌, subst, arith, ⊎_elim}
+use Rattle.p3_networks.proofs.Names.{cases_lt, drop-drop, ext_get_or, div-add-mod', div_below, mod_below, add-sub_cancel_left, Ring, poly, poly_same, part_at}
+use Rattle.p3_networks.proofs.Names.{part_size, put_before, put_in, put_length, chunk_of, HoldsCells, MeetHalves}
 use Rattle.p3_networks.proofs.Layers.Blocks.{row_below}
 use Rattle.p3_networks.proofs.Layers.Halves.{block_room}
+use borrow.Rule.Slice.PartMut.{drop_put, put_mid}
 
 module _ {T : Type 0} (d : T) (size : ℕ) where
   pub chunk_at : (n i : ℕ) (xs : List T) → i < size → get_or (chunk_of size n xs) i d ≡ get_or xs (n * size + i) d

@@ -1,25 +1,13 @@
 -- Blocks of rows that are lent to a consumer while other rows are still written.
-use Rattle.std.proofs.Common.{◌≡◌, ℕ, zero, suc, ◌+◌, ◌*◌, ◌-◌, ◌/◌, ◌%◌, ◌<◌, ◌≤◌, List, [], ◌∷◌, ◌++◌, length, get_or}
-use Rattle.std.proofs.Common.{map, take, drop, Result, Ok, Err, refl, sym, ap, ap₂, ◌∙◌, subst, arith, rules, add-one}
-use Rattle.std.proofs.Common.{le_of_lt, le_refl, length-append, ⊎_elim}
-use Rattle.std.specs.Prelude.{⊤}
+use Rattle.p3_networks.proofs.Names.{◌≡◌, ℕ, zero, suc, ◌+◌, ◌*◌, ◌-◌, ◌/◌, ◌%◌, ◌<◌, ◌≤◌, List, [], ◌∷◌, ◌++◌, length, get_or, map, take, drop, Result, Ok}
+use Rattle.p3_networks.proofs.Names.{Err, refl, sym, ap, ap₂, ◌∙◌, subst, arith, rules, add-one, le_of_lt, le_refl, length-append, ⊎_elim, ⊤, mul-div_cancel}
+use Rattle.p3_networks.proofs.Names.{mul-le-mul_right, mul-mod_left, cases_lt, FoldsTo-push, append-nil, append_assoc, drop-drop, get_or_append_left}
+use Rattle.p3_networks.proofs.Names.{get_or-append_right, places, take-take, All-append, get_or-map-range_with_len, length-map-range_with_len}
+use Rattle.p3_networks.proofs.Names.{map-range_with_len_more, take-length, mul-add-lt, AreBlocksOf, IsBlockOf, Run, RunToRefusal, Matrix, image, matrix}
+use Rattle.p3_networks.proofs.Names.{RowMajor, starts_differ, list_same, LentInBlocks, slot_block, slot_blocks}
 use Rattle.std.specs.List.{range_with_len, between}
-use Rattle.std.proofs.Math.Nat.{mul-div_cancel, mul-le-mul_right, mul-mod_left}
-use Rattle.std.proofs.lemmas.Bool.{cases_lt}
-use Rattle.std.proofs.lemmas.Fn.{FoldsTo-push}
-use Rattle.std.proofs.lemmas.List.{append-nil, append_assoc, drop-drop, get_or_append_left, get_or-append_right, places, take-take}
-use Rattle.std.proofs.lemmas.List.Elements.{All-append}
-use Rattle.std.proofs.lemmas.List.FromFn.{get_or-map-range_with_len, length-map-range_with_len, map-range_with_len_more}
-use Rattle.std.proofs.Math.Seq.{take-length}
-use Rattle.std.proofs.lemmas.Nat.{mul-add-lt}
-use borrow.Rule.Slice.PartMut.{put_mid}
 use Rattle.std.proofs.lemmas.Slice.{between_is, between-put_mid, take-put_mid_below}
-use Rattle.p3_matrix.specs.Blocks.{AreBlocksOf, IsBlockOf, Run, RunToRefusal}
-use Rattle.p3_matrix.specs.Matrix.{Matrix, image, matrix}
-use Rattle.p3_matrix.specs.RowMajor.{RowMajor}
-use Rattle.p3_matrix.proofs.BlockRuns.{starts_differ}
-use Rattle.p3_matrix.proofs.Matrices.{list_same}
-use Rattle.p3_networks.specs.Slots.{LentInBlocks, slot_block, slot_blocks}
+use borrow.Rule.Slice.PartMut.{put_mid}
 
 -- m numbers, and then n more
 pub map_joined : {X : Type 0} (f : ℕ → X) (m n : ℕ) → map f (range_with_len 0 m) ++ map (λ q. f (m + q)) (range_with_len 0 n) ≡ map f (range_with_len 0 (m + n))

@@ -1,14 +1,8 @@
 -- The twiddles of the second half of a network, by layer and block.
-use Rattle.std.proofs.Common.{◌≡◌, ℕ, ◌+◌, ◌*◌, ◌-◌, ◌<◌, ◌≤◌, ◌^◌, ap₂, ◌∙◌, arith}
-use Rattle.std.proofs.lemmas.Nat.{pow-add}
-use Rattle.std.proofs.Math.Nat.{mul-le-mul_right}
-use Rattle.p3_field.specs.Ring.{AreRoots}
-use Rattle.p3_field.specs.declared.fields.Valued.{Ghosts as FieldMembers}
-use Rattle.p3_matrix.specs.BitOrder.{rev}
-use Rattle.p3_matrix.specs.Cosets.{point}
-use Rattle.p3_networks.specs.Halves.{AreHighTwiddles}
+use Rattle.p3_networks.proofs.Names.{◌≡◌, ℕ, ◌+◌, ◌*◌, ◌-◌, ◌<◌, ◌≤◌, ◌^◌, ap₂, ◌∙◌, arith, pow-add, mul-le-mul_right, AreRoots, rev, point, AreHighTwiddles}
 use Rattle.p3_networks.proofs.Networks.Chunks.{chunk_twiddle}
 use Rattle.p3_networks.proofs.Networks.Stages.{twiddle}
+use Rattle.p3_field.specs.declared.fields.Valued.{Ghosts as FieldMembers}
 
 -- the blocks of chunk b are among those of the layer
 pub blocks_within : (b mid done : ℕ) → b < 2 ^ mid → b * 2 ^ done + 2 ^ done ≤ 2 ^ (mid + done)

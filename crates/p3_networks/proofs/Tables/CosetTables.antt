@@ -1,16 +1,9 @@
 -- The table of a coset, as the halves of a network take it, and that tables stay.
-use Rattle.std.proofs.Common.{◌≡◌, ℕ, ◌+◌, ◌-◌, ◌<◌, ◌≤◌, ◌^◌, ◌⊎◌, inl, inr, List, [], ◌∷◌, ◌++◌, length, get_or, refl}
-use Rattle.std.proofs.Common.{sym, ap, ◌∙◌, subst, arith, length-append, ⊎_elim}
-use Rattle.std.proofs.lemmas.Bool.{cases_lt, le-leb, lt-leb}
-use Rattle.std.proofs.lemmas.List.{get_or_append_left, get_or-append_right}
-use Rattle.std.proofs.lemmas.Nat.{pow-add}
-use Rattle.p3_field.specs.Ring.{power}
+use Rattle.p3_networks.proofs.Names.{◌≡◌, ℕ, ◌+◌, ◌-◌, ◌<◌, ◌≤◌, ◌^◌, ◌⊎◌, inl, inr, List, [], ◌∷◌, ◌++◌, length, get_or, refl, sym, ap, ◌∙◌, subst, arith}
+use Rattle.p3_networks.proofs.Names.{length-append, ⊎_elim, cases_lt, le-leb, lt-leb, get_or_append_left, get_or-append_right, pow-add, power, power-mul}
+use Rattle.p3_networks.proofs.Names.{AreHighTwiddles, AreLowTwiddles, Coset, HasCoset, IsCosetAt, IsCosetOf, mid_of, by_layer, IsCosetTable, coset_twiddles}
+use Rattle.p3_networks.proofs.Names.{forward_root, layer_place}
 use Rattle.p3_field.specs.declared.fields.Valued.{Ghosts as FieldMembers}
-use Rattle.p3_field.proofs.Powers.{power-mul}
-use Rattle.p3_networks.specs.Halves.{AreHighTwiddles, AreLowTwiddles}
-use Rattle.p3_matrix.specs.Cosets.{Coset, HasCoset, IsCosetAt, IsCosetOf}
-use Rattle.p3_matrix.specs.BitOrder.{mid_of}
-use Rattle.p3_networks.specs.Twiddles.{by_layer, IsCosetTable, coset_twiddles, forward_root, layer_place}
 
 module _ {F : Type 0} (f : FieldMembers F) (generator : ℕ → F) (s : f.Element) (log : ℕ) (xs : List F) where
   -- the first half is on the coset of the power of the shift

@@ -1,13 +1,7 @@
 -- The cosets of the slots of an extension: all cosets of zero are one, and otherwise no two slots have the same.
-use Rattle.std.proofs.Common.{◌≡◌, ◌≢◌, ℕ, ◌+◌, ◌<◌, ◌≤◌, ◌^◌, ◌⊎◌, inl, inr, sym, ap, ap₂, ◌∙◌, arith, lit≤}
-use Rattle.std.proofs.Math.Nat.{pow-le-pow_right}
-use Rattle.p3_field.specs.Ring.{Ring, AreRoots, power}
+use Rattle.p3_networks.proofs.Names.{◌≡◌, ◌≢◌, ℕ, ◌+◌, ◌<◌, ◌≤◌, ◌^◌, ◌⊎◌, inl, inr, sym, ap, ap₂, ◌∙◌, arith, lit≤, pow-le-pow_right, Ring, AreRoots, power}
+use Rattle.p3_networks.proofs.Names.{rev, point, rev-lt, rev-rev, point-mul, point_of_one, points_apart}
 use Rattle.p3_field.proofs.Rings
-use Rattle.p3_matrix.specs.BitOrder.{rev}
-use Rattle.p3_matrix.specs.Cosets.{point}
-use Rattle.p3_matrix.proofs.BitReversal.{rev-lt, rev-rev}
-use Rattle.p3_matrix.proofs.Polynomials.Cosets.{point-mul, point_of_one}
-use Rattle.p3_matrix.proofs.Polynomials.Distance.{points_apart}
 
 -- how many slots have a coset that none before them has
 abbrev pub AreSlotsApart : {A : Type 0} (R : Ring A) → A → ℕ → ℕ → Type 0

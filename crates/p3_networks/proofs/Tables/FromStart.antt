@@ -1,17 +1,10 @@
 -- One table for all layers: where its entries are those of the last layer, its first entries are those of each layer.
-use Rattle.std.proofs.Common.{◌≡◌, ℕ, zero, suc, ◌+◌, ◌*◌, ◌-◌, ◌/◌, ◌<◌, ◌≤◌, ◌^◌, List, length, get_or, sym, ap, ap₂, ◌∙◌, subst, arith, lit≤}
-use Rattle.std.proofs.Math.Nat.{mul-le-mul_right, pow-le-pow_right}
-use Rattle.std.proofs.lemmas.Nat.{pow-add, pow_pos}
-use Rattle.p3_field.specs.Ring.{power, AreRoots}
-use Rattle.p3_field.specs.declared.fields.Valued.{Ghosts as FieldMembers}
-use Rattle.p3_field.proofs.Powers.{power-zero, power_of_one}
-use Rattle.p3_field.proofs.Rings
-use Rattle.p3_field.proofs.Roots.{root_strided}
-use Rattle.p3_matrix.specs.BitOrder.{rev}
-use Rattle.p3_matrix.proofs.BitReversal.{rev-block, rev_of_zero}
+use Rattle.p3_networks.proofs.Names.{◌≡◌, ℕ, zero, suc, ◌+◌, ◌*◌, ◌-◌, ◌/◌, ◌<◌, ◌≤◌, ◌^◌, List, length, get_or, sym, ap, ap₂, ◌∙◌, subst, arith, lit≤}
+use Rattle.p3_networks.proofs.Names.{mul-le-mul_right, pow-le-pow_right, pow-add, pow_pos, power, AreRoots, power-zero, power_of_one, root_strided, rev}
+use Rattle.p3_networks.proofs.Names.{rev-block, rev_of_zero, AreHighTwiddles, AreTwiddles, AreTwiddlesFromStart, block_powers, from_start}
 use Rattle.p3_networks.proofs.Layers.Counts.{two_halves}
-use Rattle.p3_networks.specs.Halves.{AreHighTwiddles}
-use Rattle.p3_networks.specs.Twiddles.{AreTwiddles, AreTwiddlesFromStart, block_powers, from_start}
+use Rattle.p3_field.specs.declared.fields.Valued.{Ghosts as FieldMembers}
+use Rattle.p3_field.proofs.Rings
 
 module _ {F : Type 0} (f : FieldMembers F) (root : ℕ → f.Element) where
   -- a power of a root is one of the root of a layer

@@ -1,13 +1,8 @@
 -- Powers of the inverse of a root from those of the root, both in bit reversed order: a chunk of 2 ^ l entries from place 2 ^ l on is
 -- turned around and negated.
-use Rattle.std.proofs.Common.{◌≡◌, ℕ, zero, suc, ◌+◌, ◌*◌, ◌-◌, ◌<◌, ◌≤◌, ◌^◌, sym, ap, ap₂, ◌∙◌, arith, add-one, ◌⊎◌, inl, inr}
-use Rattle.std.proofs.lemmas.Nat.{pow-add, pow_pos}
-use Rattle.std.proofs.Math.Nat.{two-pow-succ}
-use Rattle.p3_field.specs.Ring.{Ring, power, AreRoots}
-use Rattle.p3_field.proofs.Parity.{even_or_odd}
-use Rattle.p3_field.proofs.Roots.{inverse_root, inverse_undoes, inverse_power, root_across}
-use Rattle.p3_matrix.specs.BitOrder.{rev}
-use Rattle.p3_matrix.proofs.BitReversal.{rev-zero, rev_of_zero, rev-even, rev-odd, rev-block}
+use Rattle.p3_networks.proofs.Names.{◌≡◌, ℕ, zero, suc, ◌+◌, ◌*◌, ◌-◌, ◌<◌, ◌≤◌, ◌^◌, sym, ap, ap₂, ◌∙◌, arith, add-one, ◌⊎◌, inl, inr, pow-add, pow_pos}
+use Rattle.p3_networks.proofs.Names.{two-pow-succ, Ring, power, AreRoots, even_or_odd, inverse_root, inverse_undoes, inverse_power, root_across, rev, rev-zero}
+use Rattle.p3_networks.proofs.Names.{rev_of_zero, rev-even, rev-odd, rev-block}
 use Rattle.p3_networks.proofs.Tables.ReversedPowers.{rev_above}
 
 -- all digits turned

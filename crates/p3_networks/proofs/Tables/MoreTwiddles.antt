@@ -1,10 +1,7 @@
 -- The twiddles of one more layer, and of fewer.
-use Rattle.std.proofs.Common.{◌≡◌, ℕ, suc, ◌+◌, ◌*◌, ◌-◌, ◌^◌, ◌<◌, ◌≤◌, List, length, get_or, sym, ap, ◌∙◌, subst, arith, add-one, lit≤, ⊎_elim}
-use Rattle.std.proofs.Math.Nat.{pow-le-pow_right, two-pow-succ}
-use Rattle.std.proofs.lemmas.Bool.{cases_lt}
-use Rattle.std.proofs.lemmas.Nat.{pow_pos}
+use Rattle.p3_networks.proofs.Names.{◌≡◌, ℕ, suc, ◌+◌, ◌*◌, ◌-◌, ◌^◌, ◌<◌, ◌≤◌, List, length, get_or, sym, ap, ◌∙◌, subst, arith, add-one, lit≤, ⊎_elim}
+use Rattle.p3_networks.proofs.Names.{pow-le-pow_right, two-pow-succ, cases_lt, pow_pos, AreTwiddlesOfLayers}
 use Rattle.p3_field.specs.declared.fields.Valued.{Ghosts as FieldMembers}
-use Rattle.p3_networks.specs.Twiddles.{AreTwiddlesOfLayers}
 
 -- the twiddles of a layer lie within those of all layers
 pub layer_there : (k n : ℕ) → k < 64 → 2 ^ k - 1 ≤ n → (l : ℕ) → l < k → (l < 63) × (2 * 2 ^ l - 1 ≤ n)

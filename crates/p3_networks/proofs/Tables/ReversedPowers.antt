@@ -1,11 +1,6 @@
 -- Powers in bit reversed order, as they are made.
-use Rattle.std.proofs.Common.{◌≡◌, Bool, true, false, ℕ, suc, ◌+◌, ◌*◌, ◌-◌, ◌<◌, ◌^◌, refl, sym, ap, ap₂, ◌∙◌, arith, add-one, ⊎_elim}
-use Rattle.std.proofs.lemmas.Bool.{cases_lt}
-use Rattle.p3_field.specs.Ring.{Ring, power}
-use Rattle.p3_field.proofs.Powers.{power-add}
-use Rattle.p3_matrix.specs.BitOrder.{rev}
-use Rattle.p3_matrix.proofs.BitReversal.{rev_of_zero, rev-odd, rev-block}
-use Rattle.p3_networks.specs.Twiddles.{layer_place}
+use Rattle.p3_networks.proofs.Names.{◌≡◌, Bool, true, false, ℕ, suc, ◌+◌, ◌*◌, ◌-◌, ◌<◌, ◌^◌, refl, sym, ap, ap₂, ◌∙◌, arith, add-one, ⊎_elim, cases_lt, Ring}
+use Rattle.p3_networks.proofs.Names.{power, power-add, rev, rev_of_zero, rev-odd, rev-block, layer_place}
 
 -- one binary digit more in front is one more behind
 pub rev_above : (n l t : ℕ) → l < n → t < 2 ^ l → rev n (2 ^ l + t) ≡ rev n t + 2 ^ (n - 1 - l)

@@ -1,12 +1,8 @@
 -- Powers of the generators, or of their inverses, as the halves of a network on the subgroup take them.
-use Rattle.std.proofs.Common.{◌≡◌, ℕ, ◌-◌, ◌<◌, ◌≤◌, ◌^◌, Bool, true, false, sym, ap, ◌∙◌, subst, arith}
-use Rattle.p3_field.specs.Ring.{Ring, AreRoots, power}
+use Rattle.p3_networks.proofs.Names.{◌≡◌, ℕ, ◌-◌, ◌<◌, ◌≤◌, ◌^◌, Bool, true, false, sym, ap, ◌∙◌, subst, arith, Ring, AreRoots, power, power_of_one}
+use Rattle.p3_networks.proofs.Names.{inverse_roots, AreLowTwiddles, root_of, root_powers}
 use Rattle.p3_field.specs.declared.fields.Valued.{Ghosts as FieldMembers}
 use Rattle.p3_field.proofs.Rings
-use Rattle.p3_field.proofs.Powers.{power_of_one}
-use Rattle.p3_field.proofs.Roots.{inverse_roots}
-use Rattle.p3_networks.specs.Halves.{AreLowTwiddles}
-use Rattle.p3_networks.specs.Twiddles.{root_of, root_powers}
 
 -- fewer roots are roots
 pub fewer_roots : {A : Type 0} (R : Ring A) (k bits : ℕ) {root : ℕ → A} → k ≤ bits → AreRoots R bits root → AreRoots R k root

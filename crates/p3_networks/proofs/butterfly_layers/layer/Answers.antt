@@ -1,5 +1,4 @@
-use Rattle.std.proofs.Common.{◌≡◌, ℕ, ◌+◌, ◌*◌, ◌/◌, ◌<◌, ◌≤◌, List, length, get_or, sym, subst}
-use Rattle.p3_networks.specs.Layers.{IsLayer}
+use Rattle.p3_networks.proofs.Lemmas.{◌≡◌, ℕ, ◌+◌, ◌*◌, ◌/◌, ◌<◌, ◌≤◌, List, length, get_or, sym, subst, IsLayer}
 use Rattle.p3_networks.proofs.butterfly_layers.layer.Goals as goal
 
 -- what holds of a known width and a known half

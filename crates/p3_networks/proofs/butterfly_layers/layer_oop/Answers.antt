@@ -1,8 +1,4 @@
-use Rattle.std.proofs.Common.{◌≡◌, ◌+◌, ◌*◌, ◌≤◌, length, refl, subst, arith}
-use Rattle.p3_matrix.proofs.Rows.Overwritten.{part_size}
-use Rattle.p3_networks.proofs.Layers.Counts.{turns_halved}
-use Rattle.p3_networks.proofs.Layers.Halves.{block_room}
-use Rattle.p3_networks.proofs.Rows.EachChunk.{halves_taken}
+use Rattle.p3_networks.proofs.Lemmas.{◌≡◌, ◌+◌, ◌*◌, ◌≤◌, length, refl, subst, arith, part_size, turns_halved, block_room, halves_taken}
 use Rattle.p3_networks.proofs.butterfly_layers.layer_oop.Goals as goal
 
 pub overflow_mul-whole : goal.overflow_mul-whole

@@ -1,9 +1,5 @@
-use Rattle.std.proofs.Common.{◌≡◌, ℕ, ◌+◌, ◌*◌, ◌/◌, ◌++◌, ◌<◌, List, length, get_or, take, drop, ap, ◌∙◌, arith, ◌≤◌, sym, subst}
-use Rattle.p3_networks.specs.Layers.{MeetHalves}
-use Rattle.p3_networks.proofs.Layers.Blocks.{row_below}
-use Rattle.p3_networks.proofs.Layers.Halves.{in_first, in_second, of_halves, each_cell, half_within, halves_same}
-use Rattle.std.proofs.Math.Nat.{mul-le-mul_right}
-use Rattle.p3_matrix.specs.Butterflies.{dit_near, dit_far}
+use Rattle.p3_networks.proofs.Lemmas.{◌≡◌, ℕ, ◌+◌, ◌*◌, ◌/◌, ◌++◌, ◌<◌, List, length, get_or, take, drop, ap, ◌∙◌, arith, ◌≤◌, sym, subst, MeetHalves}
+use Rattle.p3_networks.proofs.Lemmas.{row_below, in_first, in_second, of_halves, each_cell, half_within, halves_same, mul-le-mul_right, dit_near, dit_far}
 use Rattle.p3_networks.proofs.butterfly_layers.meet_block.Goals as goal
 
 -- halves that meet by the rows and columns of their cells

@@ -1,6 +1,4 @@
-use Rattle.std.proofs.Common.{ap, ◌∙◌, arith, ◌+◌, ◌*◌}
-use Rattle.p3_networks.proofs.Layers.Halves.{halves_same, in_first, in_second, of_halves}
-use Rattle.p3_matrix.proofs.Rows.Overwritten.{lane_at}
+use Rattle.p3_networks.proofs.Lemmas.{ap, ◌∙◌, arith, ◌+◌, ◌*◌, halves_same, in_first, in_second, of_halves, lane_at}
 use Rattle.p3_networks.proofs.butterfly_layers.meet_block_oop.Goals as goal
 
 pub returns-clause-cells : goal.returns-clause-cells

@@ -1,7 +1,4 @@
-use Rattle.std.proofs.Common.{◌≡◌, ◌+◌, ◌*◌, ◌≤◌, length, refl, subst, arith}
-use Rattle.p3_networks.proofs.Layers.Counts.{turns_halved}
-use Rattle.p3_networks.proofs.Layers.Halves.{block_room}
-use Rattle.p3_networks.proofs.Rows.EachChunk.{halves_taken}
+use Rattle.p3_networks.proofs.Lemmas.{◌≡◌, ◌+◌, ◌*◌, ◌≤◌, length, refl, subst, arith, turns_halved, block_room, halves_taken}
 use Rattle.p3_networks.proofs.butterfly_layers.meet_blocks.Goals as goal
 
 pub overflow_mul-size : goal.overflow_mul-size

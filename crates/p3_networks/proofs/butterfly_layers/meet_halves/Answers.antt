@@ -1,8 +1,5 @@
-use Rattle.std.proofs.Common.{◌≡◌, ◌⊎◌, ℕ, ◌+◌, ◌-◌, ◌*◌, ◌<◌, ◌≤◌, length, get_or, ap, ap₂, ◌∙◌, subst, arith, le-add_right, le_trans}
-use Rattle.std.proofs.Math.Nat.{add-sub_cancel_left}
-use Rattle.p3_networks.proofs.Layers.Counts.{count_more, count_all}
-use Rattle.p3_networks.proofs.Layers.Halves.{block_room}
-use Rattle.p3_matrix.proofs.Rows.Overwritten.{rows-next, rows-none, rows-all}
+use Rattle.p3_networks.proofs.Lemmas.{◌≡◌, ◌⊎◌, ℕ, ◌+◌, ◌-◌, ◌*◌, ◌<◌, ◌≤◌, length, get_or, ap, ap₂, ◌∙◌, subst, arith, le-add_right, le_trans}
+use Rattle.p3_networks.proofs.Lemmas.{add-sub_cancel_left, count_more, count_all, block_room, rows-next, rows-none, rows-all}
 use Rattle.p3_networks.proofs.butterfly_layers.meet_halves.Goals as goal
 
 pub meet_ranges-requires-clause-room : goal.meet_ranges-requires-clause-room

@@ -1,14 +1,8 @@
-use Rattle.std.proofs.Common.{◌≡◌, ◌+◌, ◌*◌, ◌<◌, ◌≤◌, List, length, refl, sym, ap, ◌∙◌, subst, arith, ℕ, Fits-le, add-one-le, le-add_right}
-use Rattle.std.proofs.Common.{le_antisymm, le_refl, le_trans, lt_of_lt_of_le, zero-mul}
-use Rattle.std.proofs.Math.Nat.{mul-le-mul_right}
-use borrow.Author.Rules.{scaled_fits≤}
-use Rattle.p3_matrix.specs.Blocks.{Run}
-use Rattle.p3_networks.specs.Slots.{slot_blocks}
-use Rattle.p3_networks.proofs.Layers.Blocks.{block_within, row_below}
-use Rattle.p3_networks.proofs.Layers.Counts.{rises_joined, rises_within}
-use Rattle.p3_networks.proofs.Layers.Halves.{block_room, part_length}
-use Rattle.p3_networks.proofs.Rows.EachChunk.{chunks_next, chunks_none, chunks_weaker}
+use Rattle.p3_networks.proofs.Lemmas.{◌≡◌, ◌+◌, ◌*◌, ◌<◌, ◌≤◌, List, length, refl, sym, ap, ◌∙◌, subst, arith, ℕ, Fits-le, add-one-le, le-add_right}
+use Rattle.p3_networks.proofs.Lemmas.{le_antisymm, le_refl, le_trans, lt_of_lt_of_le, zero-mul, mul-le-mul_right, Run, slot_blocks, block_within, row_below}
+use Rattle.p3_networks.proofs.Lemmas.{rises_joined, rises_within, block_room, part_length, chunks_next, chunks_none, chunks_weaker}
 use Rattle.p3_networks.proofs.Rows.Lent.{refused_put, run_put}
+use borrow.Author.Rules.{scaled_fits≤}
 use Rattle.p3_networks.proofs.chunks.lend_each_chunk.Goals as goal
 
 -- a row of chunk n before the end of its block m, and the chunks before that end

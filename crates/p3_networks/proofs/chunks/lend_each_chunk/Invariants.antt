@@ -1,8 +1,4 @@
-use Rattle.std.proofs.Common.{ℕ, ◌*◌, ◌<◌}
-use Rattle.p3_matrix.specs.Blocks.{Run}
-use Rattle.p3_networks.specs.Counts.{RisesAtMost}
-use Rattle.p3_networks.specs.Slots.{slot_blocks}
-use Rattle.p3_networks.proofs.Rows.EachChunk.{ChunksDone}
+use Rattle.p3_networks.proofs.Lemmas.{ℕ, ◌*◌, ◌<◌, Run, RisesAtMost, slot_blocks, ChunksDone}
 use Rattle.p3_networks.proofs.chunks.lend_each_chunk.Given as goal
 
 -- the first chunks are done, and all their blocks were lent

@@ -1,8 +1,6 @@
-use Rattle.std.proofs.Common.{◌*◌, length, sym, ap, ◌∙◌, subst, Fits-le, le-add_right, le_refl, le_trans, lt_of_lt_of_le}
+use Rattle.p3_networks.proofs.Lemmas.{◌*◌, length, sym, ap, ◌∙◌, subst, Fits-le, le-add_right, le_refl, le_trans, lt_of_lt_of_le, rises_joined, rises_within}
+use Rattle.p3_networks.proofs.Lemmas.{block_room, part_length, chunks_next, chunks_none}
 use borrow.Author.Rules.{scaled_fits≤}
-use Rattle.p3_networks.proofs.Layers.Counts.{rises_joined, rises_within}
-use Rattle.p3_networks.proofs.Layers.Halves.{block_room, part_length}
-use Rattle.p3_networks.proofs.Rows.EachChunk.{chunks_next, chunks_none}
 use Rattle.p3_networks.proofs.chunks.on_each_chunk.Goals as goal
 
 pub overflow_mul-start : goal.overflow_mul-start

@@ -1,6 +1,4 @@
-use Rattle.std.proofs.Common.{◌*◌}
-use Rattle.p3_networks.specs.Counts.{RisesAtMost}
-use Rattle.p3_networks.proofs.Rows.EachChunk.{ChunksDone}
+use Rattle.p3_networks.proofs.Lemmas.{◌*◌, RisesAtMost, ChunksDone}
 use Rattle.p3_networks.proofs.chunks.on_each_chunk.Given as goal
 
 abbrev pub invariant-loop-n : goal.invariant-loop-n

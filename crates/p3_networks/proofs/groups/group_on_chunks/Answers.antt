@@ -1,7 +1,5 @@
-use Rattle.std.proofs.Common.{◌≡◌, ◌-◌, ◌*◌, ◌/◌, length, ap, ◌∙◌, arith}
-use Rattle.p3_networks.proofs.Layers.Counts.{rises_as}
-use Rattle.p3_networks.proofs.Layers.Shifts.{one_shifted}
-use Rattle.p3_networks.proofs.Layers.Tiles.{tile_rows, tile_sizes, tile_small, tiles_cost, tiles_taken}
+use Rattle.p3_networks.proofs.Lemmas.{◌≡◌, ◌-◌, ◌*◌, ◌/◌, length, ap, ◌∙◌, arith, rises_as, one_shifted, tile_rows, tile_sizes, tile_small, tiles_cost}
+use Rattle.p3_networks.proofs.Lemmas.{tiles_taken}
 use Rattle.p3_networks.proofs.groups.group_on_chunks.Goals as goal
 
 pub on_each_chunk-requires-clause-whole : goal.on_each_chunk-requires-clause-whole

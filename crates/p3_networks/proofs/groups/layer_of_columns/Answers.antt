@@ -1,7 +1,4 @@
-use Rattle.std.proofs.Common.{◌≡◌, ℕ, ◌*◌, ◌-◌, length, refl, arith}
-use Rattle.p3_networks.proofs.Layers.Columns.{blocks_of_columns}
-use Rattle.p3_networks.proofs.Layers.Counts.{rises_as, turns_halved}
-use Rattle.p3_networks.proofs.Layers.Halves.{block_room}
+use Rattle.p3_networks.proofs.Lemmas.{◌≡◌, ℕ, ◌*◌, ◌-◌, length, refl, arith, blocks_of_columns, rises_as, turns_halved, block_room}
 use Rattle.p3_networks.proofs.groups.layer_of_columns.Goals as goal
 
 pub overflow_mul-size : goal.overflow_mul-size

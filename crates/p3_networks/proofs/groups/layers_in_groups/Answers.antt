@@ -1,9 +1,6 @@
-use Rattle.std.proofs.Common.{◌≡◌, ℕ, ◌+◌, ◌-◌, ◌*◌, ◌≤◌, length, sym, ap, ap₂, ◌∙◌, subst, arith, le_refl}
-use Rattle.p3_networks.specs.Groups.{cells_of, group_end, group_of}
-use Rattle.p3_networks.specs.Layers.{HoldsCells}
-use Rattle.p3_networks.proofs.Layers.Counts.{rises_as}
-use Rattle.p3_networks.proofs.Layers.Groups.{covered, covered_first, covered_last, covered_next, group_first}
-use Rattle.p3_networks.proofs.Layers.Groups.{group_last, layers_more, stand, stand_first, stand_last}
+use Rattle.p3_networks.proofs.Lemmas.{◌≡◌, ℕ, ◌+◌, ◌-◌, ◌*◌, ◌≤◌, length, sym, ap, ap₂, ◌∙◌, subst, arith, le_refl, cells_of, group_end, group_of, HoldsCells}
+use Rattle.p3_networks.proofs.Lemmas.{rises_as, covered, covered_first, covered_last, covered_next, group_first, group_last, layers_more, stand, stand_first}
+use Rattle.p3_networks.proofs.Lemmas.{stand_last}
 use Rattle.p3_networks.proofs.groups.layers_in_groups.Goals as goal
 
 pub loop-done-init : goal.loop-done-init

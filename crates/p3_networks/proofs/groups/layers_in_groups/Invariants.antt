@@ -1,8 +1,4 @@
-use Rattle.std.proofs.Common.{ℕ, ◌*◌, length}
-use Rattle.p3_networks.specs.Counts.{RisesAtMost}
-use Rattle.p3_networks.specs.Groups.{AreLayersInOrder, cells_of}
-use Rattle.p3_networks.specs.Layers.{HoldsCells}
-use Rattle.p3_networks.proofs.Layers.Groups.{covered, stand}
+use Rattle.p3_networks.proofs.Lemmas.{ℕ, ◌*◌, length, RisesAtMost, AreLayersInOrder, cells_of, HoldsCells, covered, stand}
 use Rattle.p3_networks.proofs.groups.layers_in_groups.Given as goal
 
 abbrev pub invariant-loop-done : goal.invariant-loop-done

@@ -1,6 +1,4 @@
-use Rattle.std.proofs.Common.{◌≡◌, suc, ◌*◌, ◌^◌, ◌≤◌, arith, lit≤}
-use Rattle.std.proofs.Math.Nat.{pow-le-pow_right}
-use Rattle.std.proofs.lemmas.Nat.{pow_pos}
+use Rattle.p3_networks.proofs.Lemmas.{◌≡◌, suc, ◌*◌, ◌^◌, ◌≤◌, arith, lit≤, pow-le-pow_right, pow_pos}
 use Rattle.p3_networks.proofs.groups.log_tile_rows.Goals as goal
 
 pub returns-clause-least : goal.returns-clause-least

@@ -1,7 +1,4 @@
-use Rattle.std.proofs.Common.{◌≡◌, ◌+◌, ◌*◌, ◌-◌, ◌^◌, ◌≤◌, sym, ap, ◌∙◌, arith, lit≤, ⊎_elim}
-use Rattle.std.proofs.Math.Nat.{pow-le-pow_right}
-use Rattle.std.proofs.lemmas.Bool.{cases_lt}
-use Rattle.std.proofs.lemmas.Nat.{pow-add}
+use Rattle.p3_networks.proofs.Lemmas.{◌≡◌, ◌+◌, ◌*◌, ◌-◌, ◌^◌, ◌≤◌, sym, ap, ◌∙◌, arith, lit≤, ⊎_elim, pow-le-pow_right, cases_lt, pow-add}
 use Rattle.p3_networks.proofs.groups.piece_size.Goals as goal
 
 pub returns-clause-enough : goal.returns-clause-enough

@@ -1,18 +1,6 @@
-use Rattle.std.specs.Borrow.{Bor}
-use Rattle.std.proofs.Common.{◌≡◌, ℕ, ◌<◌, ◌+◌, ◌*◌, ◌-◌, ◌/◌, ◌^◌, List, length, get_or, Option, Some, None, refl, ap, ◌∙◌, arith}
-use Rattle.std.proofs.lemmas.Option.{IfSome_then}
-use Rattle.p3_matrix.specs.BitOrder.{rev}
-use Rattle.p3_matrix.specs.Cosets.{point}
-use Rattle.p3_matrix.specs.Polynomials.{poly}
-use Rattle.p3_matrix.proofs.BitReversal.{rev-lt}
-use Rattle.p3_matrix.proofs.Rows.Overwritten.{part_size}
-use Rattle.p3_networks.specs.Chunks.{chunk_of, chunk_of_source, source_of}
-use Rattle.p3_networks.specs.Layers.{AreRows}
-use Rattle.p3_networks.proofs.Layers.Counts.{turns_halved}
-use Rattle.p3_networks.proofs.Layers.Halves.{block_room}
-use Rattle.p3_networks.proofs.Layers.Shifts.{one_shifted}
-use Rattle.p3_networks.proofs.Layers.Tiles.{tile_sizes}
-use Rattle.p3_networks.proofs.Rows.EachChunk.{row_taken}
+use Rattle.p3_networks.proofs.Lemmas.{Bor, ◌≡◌, ℕ, ◌<◌, ◌+◌, ◌*◌, ◌-◌, ◌/◌, ◌^◌, List, length, get_or, Option, Some, None, refl, ap, ◌∙◌, arith, IfSome_then}
+use Rattle.p3_networks.proofs.Lemmas.{rev, point, poly, rev-lt, part_size, chunk_of, chunk_of_source, source_of, AreRows, turns_halved, block_room, one_shifted}
+use Rattle.p3_networks.proofs.Lemmas.{tile_sizes, row_taken}
 use Rattle.p3_networks.proofs.halves.first_half.Goals as goal
 
 -- a chunk of the source is one of what work begins with

@@ -1,17 +1,8 @@
-use Rattle.std.proofs.Common.{◌≡◌, ℕ, ◌+◌, ◌*◌, ◌-◌, ◌^◌, ◌<◌, ◌≤◌, get_or, sym, ap, ap₂, ◌∙◌, subst, arith, lit≤, refl}
-use Rattle.std.proofs.Math.Nat.{pow-le-pow_right, mul-le-mul_right, le-add_right}
-use Rattle.p3_matrix.specs.BitOrder.{rev}
-use Rattle.p3_matrix.specs.Butterflies.{dit_near, dit_far}
-use Rattle.p3_matrix.specs.Cosets.{point}
-use Rattle.p3_networks.specs.Twiddles.{factor, scale_cost}
-use Rattle.p3_networks.proofs.Layers.Blocks.{blocks_whole}
-use Rattle.p3_networks.proofs.Layers.Counts.{layer_counted, layers_counted}
-use Rattle.p3_networks.proofs.Layers.Sizes.{cells_by_blocks, done_shift, left_shift, some_rows}
-use Rattle.p3_networks.proofs.Networks.Formulas.{whole_layer_taken}
-use Rattle.p3_networks.proofs.Networks.HighRows.{high_row, high_rows, high_start, high_end}
-use Rattle.p3_networks.proofs.Networks.Stages.{twiddle}
-use Rattle.p3_networks.proofs.Tables.BlockTables.{blocks_within, chunk_entry}
-use Rattle.p3_networks.proofs.Layers.Shifts.{one_shifted}
+use Rattle.p3_networks.proofs.Lemmas.{◌≡◌, ℕ, ◌+◌, ◌*◌, ◌-◌, ◌^◌, ◌<◌, ◌≤◌, get_or, sym, ap, ap₂, ◌∙◌, subst, arith, lit≤, refl, pow-le-pow_right}
+use Rattle.p3_networks.proofs.Lemmas.{mul-le-mul_right, le-add_right, rev, dit_near, dit_far, point, factor, scale_cost, blocks_whole, layer_counted}
+use Rattle.p3_networks.proofs.Lemmas.{layers_counted, cells_by_blocks, done_shift, left_shift, some_rows, whole_layer_taken, high_row, high_rows, high_start}
+use Rattle.p3_networks.proofs.Lemmas.{high_end, twiddle, chunk_entry, one_shifted}
+use Rattle.p3_networks.proofs.Tables.BlockTables.{blocks_within}
 use Rattle.p3_networks.proofs.halves.high_network.Goals as goal
 
 -- the half block of the first layer, of which there is one block

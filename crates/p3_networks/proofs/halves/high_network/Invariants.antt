@@ -1,10 +1,4 @@
-use Rattle.std.proofs.Common.{◌≡◌, ℕ, ◌+◌, ◌*◌, ◌-◌, ◌^◌, ◌<◌, ◌≤◌, get_or}
-use Rattle.p3_field.specs.Ring.{AreRoots}
-use Rattle.p3_matrix.specs.BitOrder.{rev}
-use Rattle.p3_matrix.specs.Cosets.{point}
-use Rattle.p3_networks.specs.Halves.{AreHighTwiddles}
-use Rattle.p3_networks.specs.Twiddles.{factor, scale_cost}
-use Rattle.p3_networks.proofs.Networks.HighRows.{high_row}
+use Rattle.p3_networks.proofs.Lemmas.{◌≡◌, ℕ, ◌+◌, ◌*◌, ◌-◌, ◌^◌, ◌<◌, ◌≤◌, get_or, AreRoots, rev, point, AreHighTwiddles, factor, scale_cost, high_row}
 use Rattle.p3_networks.proofs.halves.high_network.Given as goal
 
 abbrev pub invariant-loop-done : goal.invariant-loop-done

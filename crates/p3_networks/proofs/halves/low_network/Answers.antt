@@ -1,9 +1,5 @@
-use Rattle.std.proofs.Common.{◌≡◌, ℕ, ◌+◌, ◌*◌, ◌-◌, ◌^◌, get_or, refl, ap, ◌∙◌, subst, arith}
-use Rattle.p3_matrix.specs.BitOrder.{rev}
-use Rattle.p3_networks.specs.Counts.{RisesAtMost}
-use Rattle.p3_networks.proofs.Layers.Blocks.{halves_whole}
-use Rattle.p3_networks.proofs.Layers.Counts.{layer_counted, layers_counted}
-use Rattle.p3_networks.proofs.Networks.LowLayers.{low_begun, low_done, low_layer}
+use Rattle.p3_networks.proofs.Lemmas.{◌≡◌, ℕ, ◌+◌, ◌*◌, ◌-◌, ◌^◌, get_or, refl, ap, ◌∙◌, subst, arith, rev, RisesAtMost, halves_whole, layer_counted}
+use Rattle.p3_networks.proofs.Lemmas.{layers_counted, low_begun, low_done, low_layer}
 use Rattle.p3_networks.proofs.halves.low_network.Goals as goal
 
 pub loop-l-init : goal.loop-l-init

@@ -1,11 +1,5 @@
-use Rattle.std.proofs.Common.{◌≡◌, ℕ, ◌+◌, ◌*◌, ◌-◌, ◌^◌, ◌<◌, get_or, refl, sym, ap, ◌∙◌, subst, arith}
-use Rattle.p3_matrix.specs.BitOrder.{rev}
-use Rattle.p3_networks.specs.Counts.{RisesAtMost}
-use Rattle.p3_networks.proofs.Layers.Blocks.{halves_whole}
-use Rattle.p3_networks.proofs.Layers.Counts.{layer_counted, layers_counted, two_halves}
-use Rattle.p3_networks.proofs.Layers.Sizes.{done_shift}
-use Rattle.p3_networks.proofs.Networks.LowLayers.{low_begun, low_done, low_first, low_layer}
-use Rattle.p3_networks.proofs.Layers.Shifts.{one_shifted}
+use Rattle.p3_networks.proofs.Lemmas.{◌≡◌, ℕ, ◌+◌, ◌*◌, ◌-◌, ◌^◌, ◌<◌, get_or, refl, sym, ap, ◌∙◌, subst, arith, rev, RisesAtMost, halves_whole, layer_counted}
+use Rattle.p3_networks.proofs.Lemmas.{layers_counted, two_halves, done_shift, low_begun, low_done, low_first, low_layer, one_shifted}
 use Rattle.p3_networks.proofs.halves.low_network_oop.Goals as goal
 
 pairs_are : (k : ℕ) → 0 < k → k < 64 → one_shifted (k - 1) ≡ 2 ^ (k - 1)

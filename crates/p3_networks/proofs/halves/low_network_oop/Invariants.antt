@@ -1,9 +1,4 @@
-use Rattle.std.proofs.Common.{◌≡◌, ℕ, ◌+◌, ◌*◌, ◌-◌, ◌^◌, ◌<◌, get_or}
-use Rattle.p3_field.specs.Ring.{AreRoots}
-use Rattle.p3_matrix.specs.BitOrder.{rev}
-use Rattle.p3_networks.specs.Counts.{RisesAtMost}
-use Rattle.p3_networks.specs.Halves.{AreLowTwiddles}
-use Rattle.p3_networks.proofs.Networks.LowRows.{low_row}
+use Rattle.p3_networks.proofs.Lemmas.{◌≡◌, ℕ, ◌+◌, ◌*◌, ◌-◌, ◌^◌, ◌<◌, get_or, AreRoots, rev, RisesAtMost, AreLowTwiddles, low_row}
 use Rattle.p3_networks.proofs.halves.low_network_oop.Given as goal
 
 abbrev pub invariant-loop-l : goal.invariant-loop-l

@@ -1,7 +1,5 @@
-use Rattle.std.proofs.Common.{◌≡◌, ℕ, ◌-◌, ◌*◌, ◌<◌, sym, ap, ◌∙◌, arith, rules}
-use Rattle.p3_networks.specs.Layers.{AreRows}
-use Rattle.p3_networks.proofs.Layers.Shifts.{one_shifted}
-use Rattle.p3_networks.proofs.Layers.Sizes.{cells_by_halves, done_shift, left_shift, some_rows}
+use Rattle.p3_networks.proofs.Lemmas.{◌≡◌, ℕ, ◌-◌, ◌*◌, ◌<◌, sym, ap, ◌∙◌, arith, rules, AreRows, one_shifted, cells_by_halves, done_shift, left_shift}
+use Rattle.p3_networks.proofs.Lemmas.{some_rows}
 use Rattle.p3_networks.proofs.halves.one_low_layer.Goals as goal
 
 -- the blocks of a layer fill the rows

@@ -1,6 +1,4 @@
-use Rattle.std.proofs.Common.{sym, ap, ◌∙◌, get_or}
-use Rattle.p3_matrix.proofs.Rows.Overwritten.{value_at}
-use Rattle.p3_networks.specs.Twiddles.{factor}
+use Rattle.p3_networks.proofs.Lemmas.{sym, ap, ◌∙◌, get_or, value_at, factor}
 use Rattle.p3_networks.proofs.halves.scale_entries.Goals as goal
 
 pub returns-in-Some-clause-values : goal.returns-in-Some-clause-values

@@ -1,5 +1,4 @@
-use Rattle.std.proofs.Common.{ℕ, ◌+◌, sym, ◌∙◌, ap₂}
-use Rattle.p3_matrix.specs.Butterflies.{dit_near, dit_far}
+use Rattle.p3_networks.proofs.Lemmas.{ℕ, ◌+◌, sym, ◌∙◌, ap₂, dit_near, dit_far}
 use Rattle.p3_networks.proofs.Networks.Scaled.{scaled_near, scaled_far}
 use Rattle.p3_networks.proofs.halves.scaled_layer.Goals as goal
 

@@ -1,11 +1,5 @@
-use Rattle.std.proofs.Common.{◌+◌, ◌*◌, ◌/◌, ◌^◌, length, refl, arith}
-use Rattle.p3_matrix.specs.BitOrder.{rev}
-use Rattle.p3_matrix.specs.Cosets.{point}
-use Rattle.p3_networks.specs.Twiddles.{factor, scale_cost}
-use Rattle.p3_networks.proofs.Layers.Counts.{turns_halved}
-use Rattle.p3_networks.proofs.Layers.Sizes.{first_shift}
-use Rattle.p3_networks.proofs.Layers.Tiles.{shifted_sizes}
-use Rattle.p3_networks.proofs.Rows.EachChunk.{row_taken}
+use Rattle.p3_networks.proofs.Lemmas.{◌+◌, ◌*◌, ◌/◌, ◌^◌, length, refl, arith, rev, point, factor, scale_cost, turns_halved, first_shift, shifted_sizes}
+use Rattle.p3_networks.proofs.Lemmas.{row_taken}
 use Rattle.p3_networks.proofs.halves.second_half.Goals as goal
 
 pub on_each_chunk-requires-clause-whole : goal.on_each_chunk-requires-clause-whole

@@ -1,9 +1,5 @@
-use Rattle.std.proofs.Common.{◌≡◌, ◌+◌, ◌*◌, ◌/◌, ◌≤◌, length, refl, ap, ◌∙◌, subst, arith}
-use Rattle.std.proofs.Math.Nat.{mul-le-mul_right}
-use Rattle.p3_networks.proofs.Layers.Counts.{turns_halved}
-use Rattle.p3_networks.proofs.Layers.Halves.{block_room}
-use Rattle.p3_networks.proofs.Layers.Pairs.{pairs_of_chunks}
-use Rattle.p3_networks.proofs.Layers.Scalings.{whole_packs}
+use Rattle.p3_networks.proofs.Lemmas.{◌≡◌, ◌+◌, ◌*◌, ◌/◌, ◌≤◌, length, refl, ap, ◌∙◌, subst, arith, mul-le-mul_right, turns_halved, block_room, pairs_of_chunks}
+use Rattle.p3_networks.proofs.Lemmas.{whole_packs}
 use Rattle.p3_networks.proofs.pairs.on_packs.Goals as goal
 
 pub overflow_mul-width : goal.overflow_mul-width

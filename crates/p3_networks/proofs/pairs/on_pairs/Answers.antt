@@ -1,5 +1,4 @@
-use Rattle.std.proofs.Common.{◌≡◌, ◌+◌, ◌*◌, length, sym, ap, ◌∙◌, arith}
-use Rattle.p3_networks.proofs.Layers.Pairs.{joined}
+use Rattle.p3_networks.proofs.Lemmas.{◌≡◌, ◌+◌, ◌*◌, length, sym, ap, ◌∙◌, arith, joined}
 use Rattle.p3_networks.proofs.pairs.on_pairs.Goals as goal
 
 pub on_packs-requires-2-clause-whole : goal.on_packs-requires-2-clause-whole

@@ -1,5 +1,4 @@
-use Rattle.std.proofs.Common.{ℕ}
-use Rattle.p3_networks.proofs.Tables.FromStart.{enough_from_start, first_is_one, from_powers}
+use Rattle.p3_networks.proofs.Lemmas.{ℕ, enough_from_start, first_is_one, from_powers}
 use Rattle.p3_networks.proofs.radix_2_bowers.network_g.Goals as goal
 
 pub dif_network-requires-clause-first : goal.dif_network-requires-clause-first

@@ -1,6 +1,4 @@
-use Rattle.std.proofs.Common.{ℕ}
-use Rattle.p3_field.proofs.Roots.{inverse_root, inverse_roots}
-use Rattle.p3_networks.proofs.Tables.FromStart.{enough_from_start, first_is_one, from_powers}
+use Rattle.p3_networks.proofs.Lemmas.{ℕ, inverse_root, inverse_roots, enough_from_start, first_is_one, from_powers}
 use Rattle.p3_networks.proofs.radix_2_bowers.network_g_transposed.Goals as goal
 
 pub dit_network_to_reversed-requires-clause-first : goal.dit_network_to_reversed-requires-clause-first

@@ -1,13 +1,6 @@
-use Rattle.std.proofs.Common.{ℕ, ◌+◌, ◌*◌, ◌-◌, ◌/◌, ◌^◌, ◌++◌, ◌<◌, length, get_or, refl, ap, ◌∙◌, arith, ap₂, add_comm}
-use Rattle.std.proofs.lemmas.List.{length-append}
-use Rattle.p3_matrix.specs.BitOrder.{rev}
-use Rattle.p3_matrix.specs.Polynomials.{poly}
-use Rattle.p3_matrix.proofs.Polynomials.Cosets.{point_of_one}
-use Rattle.p3_networks.proofs.Layers.Counts.{joined_count}
-use Rattle.p3_networks.proofs.Layers.Blocks.{halves_whole}
+use Rattle.p3_networks.proofs.Lemmas.{ℕ, ◌+◌, ◌*◌, ◌-◌, ◌/◌, ◌^◌, ◌++◌, ◌<◌, length, get_or, refl, ap, ◌∙◌, arith, ap₂, add_comm, length-append, rev, poly}
+use Rattle.p3_networks.proofs.Lemmas.{point_of_one, joined_count, halves_whole, low_done, low_layer, fewer_roots, subgroup_table}
 use Rattle.p3_networks.proofs.Networks.LowHalves.{half_size, low_halves, rest_size}
-use Rattle.p3_networks.proofs.Networks.LowLayers.{low_done, low_layer}
-use Rattle.p3_networks.proofs.Tables.RootPowers.{fewer_roots, subgroup_table}
 use Rattle.p3_networks.proofs.radix_2_dit.+dit_network_to_natural.Goals as goal
 
 -- The lower half is a network of half the height: its height falls, it keeps width, roots and table, and it has half of the entries.

@@ -1,11 +1,5 @@
-use Rattle.std.proofs.Common.{◌≡◌, ℕ, ◌+◌, ◌*◌, ◌-◌, ◌^◌, get_or, sym, ap, ◌∙◌, arith}
-use Rattle.std.proofs.lemmas.Nat.{pow_pos}
-use Rattle.p3_matrix.specs.BitOrder.{rev}
-use Rattle.p3_matrix.specs.Polynomials.{poly}
-use Rattle.p3_matrix.proofs.Polynomials.ByIndex.{poly_same}
-use Rattle.p3_matrix.proofs.Polynomials.Cosets.{point_of_one}
-use Rattle.p3_networks.proofs.Layers.Counts.{one_chunk_counted}
-use Rattle.p3_networks.proofs.Tables.RootPowers.{fewer_roots, subgroup_table}
+use Rattle.p3_networks.proofs.Lemmas.{◌≡◌, ℕ, ◌+◌, ◌*◌, ◌-◌, ◌^◌, get_or, sym, ap, ◌∙◌, arith, pow_pos, rev, poly, poly_same, point_of_one, one_chunk_counted}
+use Rattle.p3_networks.proofs.Lemmas.{fewer_roots, subgroup_table}
 use Rattle.p3_networks.proofs.radix_2_dit.network_in_cache.Goals as goal
 
 pub returns-clause-values : goal.returns-clause-values

@@ -1,19 +1,7 @@
-use Rattle.std.proofs.Common.{◌≡◌, ℕ, ◌+◌, ◌*◌, ◌-◌, ◌^◌, ◌<◌, ◌≤◌, [], ◌∷◌, ◌++◌, suc, length, get_or, refl, sym, ap}
-use Rattle.std.proofs.Common.{ap₂, ◌∙◌, arith, add-one, lit≤, length-append, subst}
-use Rattle.std.proofs.Math.Nat.{pow-le-pow_right, two-pow-succ}
-use Rattle.std.proofs.lemmas.List.{get_or_push, get_or_read_under}
+use Rattle.p3_networks.proofs.Lemmas.{◌≡◌, ℕ, ◌+◌, ◌*◌, ◌-◌, ◌^◌, ◌<◌, ◌≤◌, [], ◌∷◌, ◌++◌, suc, length, get_or, refl, sym, ap, ap₂, ◌∙◌, arith, add-one, lit≤}
+use Rattle.p3_networks.proofs.Lemmas.{length-append, subst, pow-le-pow_right, two-pow-succ, get_or_push, get_or_read_under, one_shl, pow_pos, power, power-zero}
+use Rattle.p3_networks.proofs.Lemmas.{inverse_root, rev, rev_of_zero, room_of, backward_root, block_powers, AreTwiddles, inverse_entry, in_first, one_shifted}
 use borrow.Author.Count.{below_more}
-use Rattle.std.proofs.lemmas.Nat.{one_shl, pow_pos}
-use Rattle.p3_field.specs.Ring.{power}
-use Rattle.p3_field.proofs.Powers.{power-zero}
-use Rattle.p3_field.proofs.Roots.{inverse_root}
-use Rattle.p3_matrix.specs.BitOrder.{rev}
-use Rattle.p3_matrix.proofs.BitReversal.{rev_of_zero}
-use Rattle.p3_matrix.proofs.Rooms.{room_of}
-use Rattle.p3_networks.specs.Twiddles.{backward_root, block_powers, AreTwiddles}
-use Rattle.p3_networks.proofs.Tables.InversePowers.{inverse_entry}
-use Rattle.p3_networks.proofs.Layers.Halves.{in_first}
-use Rattle.p3_networks.proofs.Layers.Shifts.{one_shifted}
 use Rattle.p3_networks.proofs.root_tables.inverse_powers.Goals as goal
 
 -- chunk l lies within half the powers

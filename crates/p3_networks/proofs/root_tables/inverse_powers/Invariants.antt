@@ -1,5 +1,4 @@
-use Rattle.std.proofs.Common.{◌-◌, ◌^◌}
-use Rattle.p3_networks.specs.Twiddles.{AreTwiddles, backward_root, block_powers}
+use Rattle.p3_networks.proofs.Lemmas.{◌-◌, ◌^◌, AreTwiddles, backward_root, block_powers}
 use Rattle.p3_networks.proofs.root_tables.inverse_powers.Given as goal
 
 -- the first chunks of them are there

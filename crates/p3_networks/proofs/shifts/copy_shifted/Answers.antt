@@ -1,10 +1,6 @@
-use Rattle.std.proofs.Common.{◌≡◌, ◌+◌, ◌*◌, ◌-◌, ◌≤◌, length, get_or, take, drop, sym, ap, ap₂, ◌∙◌, arith, rules, ◌<◌, subst}
+use Rattle.p3_networks.proofs.Lemmas.{◌≡◌, ◌+◌, ◌*◌, ◌-◌, ◌≤◌, length, get_or, take, drop, sym, ap, ap₂, ◌∙◌, arith, rules, ◌<◌, subst, add-sub_cancel_left}
+use Rattle.p3_networks.proofs.Lemmas.{power-zero, power-more, turn_counted, block_room, part_length, rows-none, rows-more, part_at, value_at}
 use borrow.Author.Rules.{scaled_fits≤}
-use Rattle.std.proofs.Math.Nat.{add-sub_cancel_left}
-use Rattle.p3_field.proofs.Powers.{power-zero, power-more}
-use Rattle.p3_networks.proofs.Layers.Counts.{turn_counted}
-use Rattle.p3_networks.proofs.Layers.Halves.{block_room, part_length}
-use Rattle.p3_matrix.proofs.Rows.Overwritten.{rows-none, rows-more, part_at, value_at}
 use Rattle.p3_networks.proofs.shifts.copy_shifted.Goals as goal
 
 pub overflow_mul-start : goal.overflow_mul-start

@@ -1,6 +1,4 @@
-use Rattle.std.proofs.Common.{◌<◌, length, sym, ap₂, ◌∙◌, subst}
-use Rattle.p3_field.specs.Ring.{power}
-use Rattle.p3_networks.proofs.Layers.Scalings.{same_entries}
+use Rattle.p3_networks.proofs.Lemmas.{◌<◌, length, sym, ap₂, ◌∙◌, subst, power, same_entries}
 use Rattle.p3_networks.proofs.shifts.first_factors.Goals as goal
 
 pub returns-clause-factors : goal.returns-clause-factors

@@ -1,6 +1,4 @@
-use Rattle.std.proofs.Common.{◌≡◌, ℕ, ◌<◌, get_or, length, refl, sym, ap, ap₂, ◌∙◌, arith, subst}
-use Rattle.std.proofs.lemmas.List.{get_or-set_other, get_or_default}
-use Rattle.p3_field.proofs.LaneLoops.{next_written}
+use Rattle.p3_networks.proofs.Lemmas.{◌≡◌, ℕ, ◌<◌, get_or, length, refl, sym, ap, ap₂, ◌∙◌, arith, subst, get_or-set_other, get_or_default, next_written}
 use Rattle.p3_field.proofs.PowerLists.{first_power, next_power}
 use Rattle.p3_networks.proofs.Layers.Scalings.{factor}
 use Rattle.p3_networks.proofs.shifts.scale_each.Goals as goal

@@ -1,5 +1,4 @@
-use Rattle.std.proofs.Common.{◌≡◌, ℕ, ◌+◌, ◌<◌, ◌≤◌, get_or}
-use Rattle.p3_field.specs.Ring.{power}
+use Rattle.p3_networks.proofs.Lemmas.{◌≡◌, ℕ, ◌+◌, ◌<◌, ◌≤◌, get_or, power}
 use Rattle.p3_networks.proofs.shifts.scale_each.Given as goal
 
 -- the entries below i are multiplied, the others are as they were, and the next factor is at hand

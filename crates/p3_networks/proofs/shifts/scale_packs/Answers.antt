@@ -1,11 +1,7 @@
-use Rattle.std.proofs.Common.{◌≡◌, ◌+◌, ◌*◌, ◌-◌, ◌/◌, ◌≤◌, ◌<◌, ◌++◌, take, drop, length, sym, ap, ap₂, ◌∙◌, arith, rules, subst}
+use Rattle.p3_networks.proofs.Lemmas.{◌≡◌, ◌+◌, ◌*◌, ◌-◌, ◌/◌, ◌≤◌, ◌<◌, ◌++◌, take, drop, length, sym, ap, ap₂, ◌∙◌, arith, rules, subst, length-map}
+use Rattle.p3_networks.proofs.Lemmas.{add-sub_cancel_left, le-add_right, rows-more, part_at, value_at, lane_at, turn_counted, at_end, block_room, part_length}
+use Rattle.p3_networks.proofs.Lemmas.{factor-more, restored, same_entries, scaled_by_packs, whole_packs}
 use borrow.Author.Rules.{scaled_fits≤}
-use Rattle.std.proofs.lemmas.List.{length-map}
-use Rattle.std.proofs.Math.Nat.{add-sub_cancel_left, le-add_right}
-use Rattle.p3_matrix.proofs.Rows.Overwritten.{rows-more, part_at, value_at, lane_at}
-use Rattle.p3_networks.proofs.Layers.Counts.{turn_counted, at_end}
-use Rattle.p3_networks.proofs.Layers.Halves.{block_room, part_length}
-use Rattle.p3_networks.proofs.Layers.Scalings.{factor-more, restored, same_entries, scaled_by_packs, whole_packs}
 use Rattle.p3_networks.proofs.shifts.scale_packs.Goals as goal
 
 pub offset_bounds-values-start : goal.offset_bounds-values-start

@@ -1,6 +1,4 @@
-use Rattle.std.proofs.Common.{◌≡◌, ℕ, ◌+◌, ◌*◌, ◌<◌, get_or}
-use Rattle.p3_field.specs.Ring.{power}
-use Rattle.p3_matrix.proofs.Rows.Overwritten.{RowsDone}
+use Rattle.p3_networks.proofs.Lemmas.{◌≡◌, ℕ, ◌+◌, ◌*◌, ◌<◌, get_or, power, RowsDone}
 use Rattle.p3_networks.proofs.shifts.scale_packs.Given as goal
 
 -- the packs below i are multiplied, the others are as they were, and the next factors are at hand

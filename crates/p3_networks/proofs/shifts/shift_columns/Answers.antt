@@ -1,11 +1,5 @@
-use Rattle.std.proofs.Common.{◌≡◌, ◌+◌, ◌*◌, ◌-◌, ◌<◌, length, sym, ap, ap₂, ◌∙◌, arith, subst}
-use Rattle.std.proofs.Math.Nat.{add-sub_cancel_left, le-add_right}
-use Rattle.p3_field.specs.Ring.{power}
-use Rattle.p3_field.proofs.Powers.{power-zero, power-more}
-use Rattle.p3_matrix.proofs.Rows.Overwritten.{rows-none, rows-more, part_at}
-use Rattle.p3_networks.proofs.Layers.Counts.{turn_counted}
-use Rattle.p3_networks.proofs.Layers.Halves.{block_room, part_length}
-use Rattle.p3_networks.proofs.Layers.Scalings.{power_of_column}
+use Rattle.p3_networks.proofs.Lemmas.{◌≡◌, ◌+◌, ◌*◌, ◌-◌, ◌<◌, length, sym, ap, ap₂, ◌∙◌, arith, subst, add-sub_cancel_left, le-add_right, power, power-zero}
+use Rattle.p3_networks.proofs.Lemmas.{power-more, rows-none, rows-more, part_at, turn_counted, block_room, part_length, power_of_column}
 use Rattle.p3_networks.proofs.shifts.shift_columns.Goals as goal
 
 pub loop-i-init : goal.loop-i-init

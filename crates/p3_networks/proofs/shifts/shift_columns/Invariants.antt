@@ -1,6 +1,4 @@
-use Rattle.std.proofs.Common.{◌≡◌, ℕ, ◌+◌, ◌*◌, get_or}
-use Rattle.p3_field.specs.Ring.{power}
-use Rattle.p3_matrix.proofs.Rows.Overwritten.{RowsDone}
+use Rattle.p3_networks.proofs.Lemmas.{◌≡◌, ℕ, ◌+◌, ◌*◌, get_or, power, RowsDone}
 use Rattle.p3_networks.proofs.shifts.shift_columns.Given as goal
 
 abbrev pub invariant-loop-i : goal.invariant-loop-i

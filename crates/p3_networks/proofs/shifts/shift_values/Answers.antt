@@ -1,11 +1,7 @@
-use Rattle.std.proofs.Common.{◌≡◌, ◌+◌, ◌*◌, ◌-◌, ◌≤◌, take, drop, length, get_or, sym, ap, ap₂, ◌∙◌, arith, rules, ◌<◌, subst}
+use Rattle.p3_networks.proofs.Lemmas.{◌≡◌, ◌+◌, ◌*◌, ◌-◌, ◌≤◌, take, drop, length, get_or, sym, ap, ap₂, ◌∙◌, arith, rules, ◌<◌, subst, add-sub_cancel_left}
+use Rattle.p3_networks.proofs.Lemmas.{le-add_right, le_of_eq, power, power-zero, power-more, power_of_one, turn_counted, at_end, block_room, part_length}
+use Rattle.p3_networks.proofs.Lemmas.{rows-none, rows-more, part_at, value_at}
 use borrow.Author.Rules.{scaled_fits≤}
-use Rattle.std.proofs.Math.Nat.{add-sub_cancel_left, le-add_right, le_of_eq}
-use Rattle.p3_field.specs.Ring.{power}
-use Rattle.p3_field.proofs.Powers.{power-zero, power-more, power_of_one}
-use Rattle.p3_networks.proofs.Layers.Counts.{turn_counted, at_end}
-use Rattle.p3_networks.proofs.Layers.Halves.{block_room, part_length}
-use Rattle.p3_matrix.proofs.Rows.Overwritten.{rows-none, rows-more, part_at, value_at}
 use Rattle.p3_networks.proofs.shifts.shift_values.Goals as goal
 
 pub overflow_mul-start : goal.overflow_mul-start

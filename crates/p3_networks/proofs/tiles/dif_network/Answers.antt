@@ -1,10 +1,5 @@
-use Rattle.std.proofs.Common.{◌≡◌, ◌-◌, ℕ, ◌+◌, ◌*◌, ◌^◌, ◌≤◌, length, get_or, ap, ◌∙◌, subst, arith}
-use Rattle.p3_matrix.specs.BitOrder.{rev}
-use Rattle.p3_matrix.proofs.BitReversal.{rev-rev}
-use Rattle.p3_networks.specs.Layers.{HoldsCells}
-use Rattle.p3_networks.proofs.Layers.Blocks.{row_below}
-use Rattle.p3_networks.proofs.Layers.Counts.{counted_twice, layers_joined}
-use Rattle.p3_networks.proofs.Networks.Cells.{twisted_cells, twisted_cells_end, twisted_cells_start, twisted_layers}
+use Rattle.p3_networks.proofs.Lemmas.{◌≡◌, ◌-◌, ℕ, ◌+◌, ◌*◌, ◌^◌, ◌≤◌, length, get_or, ap, ◌∙◌, subst, arith, rev, rev-rev, HoldsCells, row_below}
+use Rattle.p3_networks.proofs.Lemmas.{counted_twice, layers_joined, twisted_cells, twisted_cells_end, twisted_cells_start, twisted_layers}
 use Rattle.p3_networks.proofs.tiles.dif_network.Goals as goal
 
 pub layers_in_groups-requires-clause-in_table : goal.layers_in_groups-requires-clause-in_table

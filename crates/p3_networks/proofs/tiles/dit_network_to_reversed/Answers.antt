@@ -1,7 +1,5 @@
-use Rattle.std.proofs.Common.{◌≡◌, ◌-◌, ℕ, ◌+◌, ◌*◌, ◌^◌, ◌≤◌, length, get_or, refl, ap, ◌∙◌, subst, arith}
-use Rattle.p3_networks.specs.Layers.{HoldsCells}
-use Rattle.p3_networks.proofs.Layers.Blocks.{row_below}
-use Rattle.p3_networks.proofs.Layers.Counts.{counted_twice, layers_joined}
+use Rattle.p3_networks.proofs.Lemmas.{◌≡◌, ◌-◌, ℕ, ◌+◌, ◌*◌, ◌^◌, ◌≤◌, length, get_or, refl, ap, ◌∙◌, subst, arith, HoldsCells, row_below, counted_twice}
+use Rattle.p3_networks.proofs.Lemmas.{layers_joined}
 use Rattle.p3_networks.proofs.Networks.Cells.{high_cells, high_cells_end, high_cells_start, high_layers}
 use Rattle.p3_networks.proofs.tiles.dit_network_to_reversed.Goals as goal
 

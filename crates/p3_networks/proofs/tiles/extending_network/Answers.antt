@@ -1,13 +1,7 @@
-use Rattle.std.proofs.Common.{◌≡◌, ℕ, ◌+◌, ◌-◌, ◌*◌, ◌^◌, ◌≤◌, length, get_or, sym, ap, ◌∙◌, subst, arith, lit≤}
-use Rattle.std.proofs.Math.Nat.{pow-le-pow_right}
-use Rattle.p3_field.specs.Ring.{power}
-use Rattle.p3_matrix.specs.BitOrder.{rev}
-use Rattle.p3_matrix.proofs.BitReversal.{rev-lt, rev-rev}
-use Rattle.p3_networks.specs.Layers.{HoldsCells}
-use Rattle.p3_networks.proofs.Layers.Blocks.{row_below}
-use Rattle.p3_networks.proofs.Networks.Cells.{twisted_cells, twisted_cells_end, twisted_cells_of_zeros, twisted_layers}
+use Rattle.p3_networks.proofs.Lemmas.{◌≡◌, ℕ, ◌+◌, ◌-◌, ◌*◌, ◌^◌, ◌≤◌, length, get_or, sym, ap, ◌∙◌, subst, arith, lit≤, pow-le-pow_right, power, rev, rev-lt}
+use Rattle.p3_networks.proofs.Lemmas.{rev-rev, HoldsCells, row_below, twisted_cells, twisted_cells_end, twisted_cells_of_zeros, twisted_layers}
+use Rattle.p3_networks.proofs.Lemmas.{enough_from_start, first_is_one, spread_root}
 use Rattle.p3_matrix.proofs.Polynomials.ByIndex.{first_behind, first_inside, first_of, poly_of_first}
-use Rattle.p3_networks.proofs.Tables.FromStart.{enough_from_start, first_is_one, spread_root}
 use Rattle.p3_networks.proofs.tiles.extending_network.Goals as goal
 
 pub spread_tiles-requires-clause-first : goal.spread_tiles-requires-clause-first

@@ -1,5 +1,4 @@
-use Rattle.std.proofs.Common.{◌≡◌, length, ap, sym, ◌∙◌, arith}
-use Rattle.p3_matrix.proofs.Rows.Overwritten.{value_at}
+use Rattle.p3_networks.proofs.Lemmas.{◌≡◌, length, ap, sym, ◌∙◌, arith, value_at}
 use Rattle.p3_networks.proofs.tiles.join_scaled.Goals as goal
 
 pub returns-clause-near : goal.returns-clause-near

@@ -1,11 +1,5 @@
-use Rattle.std.proofs.Common.{◌≡◌, ℕ, ◌+◌, ◌-◌, ◌*◌, ◌≤◌, length, get_or, sym, ap, ap₂, ◌∙◌, subst, arith}
-use Rattle.std.proofs.Math.Nat.{mul-le-mul, mul-le-mul_right}
-use Rattle.p3_networks.specs.Layers.{IsLayer}
-use Rattle.p3_networks.proofs.Layers.Groups.{block_there}
-use Rattle.p3_networks.proofs.Layers.Chunks.{chunk_sizes, chunk_taken}
-use Rattle.p3_networks.proofs.Layers.Orders.{layer_does}
-use Rattle.p3_networks.proofs.Layers.Sizes.{cells_by_halves}
-use Rattle.p3_networks.proofs.Layers.Shifts.{one_shifted}
+use Rattle.p3_networks.proofs.Lemmas.{◌≡◌, ℕ, ◌+◌, ◌-◌, ◌*◌, ◌≤◌, length, get_or, sym, ap, ap₂, ◌∙◌, subst, arith, mul-le-mul, mul-le-mul_right, IsLayer}
+use Rattle.p3_networks.proofs.Lemmas.{block_there, chunk_sizes, chunk_taken, layer_does, cells_by_halves, one_shifted}
 use Rattle.p3_networks.proofs.tiles.layer_of_chunk.Goals as goal
 
 pub overflow_shl-half : goal.overflow_shl-half

@@ -1,8 +1,5 @@
-use Rattle.std.proofs.Common.{◌≡◌, ℕ, ◌+◌, ◌*◌, ◌-◌, ◌<◌, ◌≤◌, List, get_or, length, take, drop, refl, sym, ap, ap₂, ◌∙◌, arith}
-use Rattle.std.proofs.Math.Nat.{mul-le-mul_right}
-use Rattle.p3_matrix.proofs.Rows.Overwritten.{part_at, part_size}
-use Rattle.p3_networks.proofs.Layers.Chunks.{chunk_taken}
-use Rattle.p3_networks.proofs.Layers.Orders.{layer_does}
+use Rattle.p3_networks.proofs.Lemmas.{◌≡◌, ℕ, ◌+◌, ◌*◌, ◌-◌, ◌<◌, ◌≤◌, List, get_or, length, take, drop, refl, sym, ap, ap₂, ◌∙◌, arith, mul-le-mul_right}
+use Rattle.p3_networks.proofs.Lemmas.{part_at, part_size, chunk_taken, layer_does}
 use Rattle.p3_networks.proofs.tiles.layer_of_pairs.Goals as goal
 
 -- Neighbours are the halves of blocks of two cells, and pair b has the twiddle of block b of the chunk: so pairs that meet are the first layer.

@@ -1,9 +1,5 @@
-use Rattle.std.proofs.Common.{◌≡◌, ℕ, ◌+◌, ◌*◌, ◌-◌, length, get_or, ap, ◌∙◌, subst, arith}
-use Rattle.p3_networks.specs.Counts.{RisesAtMost}
-use Rattle.p3_networks.specs.Groups.{DoesLayers, TakesCells, cells_of, layer_of}
-use Rattle.p3_networks.proofs.Layers.Chunks.{costly_layer_more}
-use Rattle.p3_networks.proofs.Layers.Counts.{at_end}
-use Rattle.p3_networks.proofs.Layers.Orders.{layer_more}
+use Rattle.p3_networks.proofs.Lemmas.{◌≡◌, ℕ, ◌+◌, ◌*◌, ◌-◌, length, get_or, ap, ◌∙◌, subst, arith, RisesAtMost, DoesLayers, TakesCells, cells_of, layer_of}
+use Rattle.p3_networks.proofs.Lemmas.{costly_layer_more, at_end, layer_more}
 use Rattle.p3_networks.proofs.tiles.layers_of_chunk.Goals as goal
 
 pub loop-done-init : goal.loop-done-init

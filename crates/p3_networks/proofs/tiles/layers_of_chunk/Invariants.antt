@@ -1,6 +1,4 @@
-use Rattle.std.proofs.Common.{ℕ, ◌*◌, get_or, length}
-use Rattle.p3_networks.specs.Counts.{RisesAtMost}
-use Rattle.p3_networks.specs.Groups.{TakesCells, cells_of}
+use Rattle.p3_networks.proofs.Lemmas.{ℕ, ◌*◌, get_or, length, RisesAtMost, TakesCells, cells_of}
 use Rattle.p3_networks.proofs.tiles.layers_of_chunk.Given as goal
 
 abbrev pub invariant-loop-done : goal.invariant-loop-done

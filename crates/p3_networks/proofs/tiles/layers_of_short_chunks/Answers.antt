@@ -1,9 +1,5 @@
-use Rattle.std.proofs.Common.{◌≡◌, ◌+◌, ◌-◌, ◌*◌, ◌/◌, length, sym, ap, ◌∙◌, arith}
-use Rattle.p3_networks.specs.Groups.{cells_of}
-use Rattle.p3_networks.proofs.Layers.Chunks.{chunk_digits}
-use Rattle.p3_networks.proofs.Layers.Tiles.{tile_rows_of_chunk, tile_sizes, tile_some, tiles_cost}
-use Rattle.p3_networks.proofs.Rows.EachChunk.{cells_of_chunks}
-use Rattle.p3_networks.proofs.Layers.Shifts.{one_shifted}
+use Rattle.p3_networks.proofs.Lemmas.{◌≡◌, ◌+◌, ◌-◌, ◌*◌, ◌/◌, length, sym, ap, ◌∙◌, arith, cells_of, chunk_digits, tile_rows_of_chunk, tile_sizes, tile_some}
+use Rattle.p3_networks.proofs.Lemmas.{tiles_cost, cells_of_chunks, one_shifted}
 use Rattle.p3_networks.proofs.tiles.layers_of_short_chunks.Goals as goal
 
 pub overflow_shl-chunks : goal.overflow_shl-chunks

@@ -1,5 +1,4 @@
-use Rattle.std.proofs.Common.{ℕ, get_or, sym, ◌∙◌, arith}
-use Rattle.p3_networks.proofs.Layers.Orders.{lower_then_upper, upper_then_lower}
+use Rattle.p3_networks.proofs.Lemmas.{ℕ, get_or, sym, ◌∙◌, arith, lower_then_upper, upper_then_lower}
 use Rattle.p3_networks.proofs.tiles.layers_of_tile.Goals as goal
 
 pub returns-in-LargestFirst-clause-cells : goal.returns-in-LargestFirst-clause-cells

@@ -1,5 +1,4 @@
-use Rattle.std.proofs.Common.{◌*◌, length, arith}
-use Rattle.p3_networks.proofs.Layers.Tiles.{tile_rows, tile_sizes, tile_small, tiles_cost, tiles_taken}
+use Rattle.p3_networks.proofs.Lemmas.{◌*◌, length, arith, tile_rows, tile_sizes, tile_small, tiles_cost, tiles_taken}
 use Rattle.p3_networks.proofs.tiles.layers_of_tiles.Goals as goal
 
 pub on_each_chunk-requires-clause-whole : goal.on_each_chunk-requires-clause-whole

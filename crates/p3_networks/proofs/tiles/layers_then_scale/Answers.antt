@@ -1,6 +1,4 @@
-use Rattle.std.proofs.Common.{◌≡◌, ℕ, ◌+◌, ◌-◌, ◌*◌, length, ap, ◌∙◌, subst, arith}
-use Rattle.p3_networks.specs.Layers.{HoldsCells}
-use Rattle.p3_matrix.proofs.Rows.Overwritten.{value_at}
+use Rattle.p3_networks.proofs.Lemmas.{◌≡◌, ℕ, ◌+◌, ◌-◌, ◌*◌, length, ap, ◌∙◌, subst, arith, HoldsCells, value_at}
 use Rattle.p3_networks.proofs.tiles.layers_then_scale.Goals as goal
 
 pub returns-clause-cells : goal.returns-clause-cells

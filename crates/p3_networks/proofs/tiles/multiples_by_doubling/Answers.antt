@@ -1,13 +1,8 @@
-use Rattle.std.proofs.Common.{◌≡◌, ℕ, ◌+◌, ◌-◌, ◌*◌, ◌<◌, ◌≤◌, ◌++◌, min, length, get_or, List, sym, ap, ap₂, ◌∙◌}
-use Rattle.std.proofs.Common.{arith, ⊎_elim, Fits-le, add-mul, le-add_right, le_trans, mul-le-mul_right}
+use Rattle.p3_networks.proofs.Lemmas.{◌≡◌, ℕ, ◌+◌, ◌-◌, ◌*◌, ◌<◌, ◌≤◌, ◌++◌, min, length, get_or, List, sym, ap, ap₂, ◌∙◌, arith, ⊎_elim, Fits-le, add-mul}
+use Rattle.p3_networks.proofs.Lemmas.{le-add_right, le_trans, mul-le-mul_right, cases_lt, power, power-add, power-one, power-zero, value_at, row_below}
+use Rattle.p3_networks.proofs.Lemmas.{in_first}
 use borrow.Rule.Slice.PartMut.{post_of}
-use Rattle.std.proofs.lemmas.Bool.{cases_lt}
-use Rattle.p3_field.specs.Ring.{power}
 use Rattle.p3_field.specs.declared.fields.Valued.{Ghosts as FieldMembers}
-use Rattle.p3_field.proofs.Powers.{power-add, power-one, power-zero}
-use Rattle.p3_matrix.proofs.Rows.Overwritten.{value_at}
-use Rattle.p3_networks.proofs.Layers.Blocks.{row_below}
-use Rattle.p3_networks.proofs.Layers.Halves.{in_first}
 use Rattle.p3_networks.proofs.tiles.multiples_by_doubling.Goals as goal
 
 -- how many rows a turn adds

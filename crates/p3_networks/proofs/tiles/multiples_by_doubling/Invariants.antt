@@ -1,5 +1,4 @@
-use Rattle.std.proofs.Common.{◌≡◌, ℕ, ◌+◌, ◌-◌, ◌*◌, ◌<◌, ◌≤◌, get_or}
-use Rattle.p3_field.specs.Ring.{power}
+use Rattle.p3_networks.proofs.Lemmas.{◌≡◌, ℕ, ◌+◌, ◌-◌, ◌*◌, ◌<◌, ◌≤◌, get_or, power}
 use Rattle.p3_networks.proofs.tiles.multiples_by_doubling.Given as goal
 
 abbrev pub invariant-loop-done : goal.invariant-loop-done

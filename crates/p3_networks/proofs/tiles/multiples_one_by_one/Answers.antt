@@ -1,12 +1,6 @@
-use Rattle.std.proofs.Common.{◌≡◌, ◌*◌, length, get_or, map, refl, sym, ap, ◌∙◌, arith, Fits-le, le-add_right, le_of_eq, le_trans}
-use Rattle.std.proofs.Math.Nat.{add-sub_cancel_left}
+use Rattle.p3_networks.proofs.Lemmas.{◌≡◌, ◌*◌, length, get_or, map, refl, sym, ap, ◌∙◌, arith, Fits-le, le-add_right, le_of_eq, le_trans, add-sub_cancel_left}
+use Rattle.p3_networks.proofs.Lemmas.{length-map, power, power-zero, power-more, turn_counted, block_room, rows-none, rows-more, value_at}
 use borrow.Author.Rules.{scaled_fits≤}
-use Rattle.std.proofs.lemmas.List.{length-map}
-use Rattle.p3_field.specs.Ring.{power}
-use Rattle.p3_field.proofs.Powers.{power-zero, power-more}
-use Rattle.p3_networks.proofs.Layers.Counts.{turn_counted}
-use Rattle.p3_networks.proofs.Layers.Halves.{block_room}
-use Rattle.p3_matrix.proofs.Rows.Overwritten.{rows-none, rows-more, value_at}
 use Rattle.p3_networks.proofs.tiles.multiples_one_by_one.Goals as goal
 
 pub overflow_mul-start : goal.overflow_mul-start

@@ -1,6 +1,4 @@
-use Rattle.std.proofs.Common.{◌≡◌, ◌+◌, ◌*◌, get_or}
-use Rattle.p3_field.specs.Ring.{power}
-use Rattle.p3_matrix.proofs.Rows.Overwritten.{RowsDone}
+use Rattle.p3_networks.proofs.Lemmas.{◌≡◌, ◌+◌, ◌*◌, get_or, power, RowsDone}
 use Rattle.p3_networks.proofs.tiles.multiples_one_by_one.Given as goal
 
 abbrev pub invariant-loop-t : goal.invariant-loop-t

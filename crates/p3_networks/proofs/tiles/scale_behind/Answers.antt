@@ -1,6 +1,4 @@
-use Rattle.std.proofs.Common.{◌≡◌, ◌-◌, length, get_or, ap, sym, ◌∙◌, arith, zero-add}
-use Rattle.p3_matrix.proofs.Rows.Overwritten.{part_at, part_size, value_at}
-use Rattle.p3_networks.proofs.Layers.Halves.{in_first, in_second}
+use Rattle.p3_networks.proofs.Lemmas.{◌≡◌, ◌-◌, length, get_or, ap, sym, ◌∙◌, arith, zero-add, part_at, part_size, value_at, in_first, in_second}
 use Rattle.p3_networks.proofs.tiles.scale_behind.Goals as goal
 
 pub returns-then-eq-clause-scaled : goal.returns-then-eq-clause-scaled

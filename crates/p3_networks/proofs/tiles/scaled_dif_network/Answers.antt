@@ -1,17 +1,6 @@
-use Rattle.std.proofs.Common.{◌≡◌, ℕ, ◌+◌, ◌-◌, ◌*◌, ◌^◌, ◌≤◌, length, get_or, sym, ap, ◌∙◌, subst, arith}
-use Rattle.std.proofs.lemmas.Nat.{pow_pos}
-use Rattle.p3_field.specs.Ring.{power}
-use Rattle.p3_field.proofs.Powers.{power-zero}
-use Rattle.p3_field.proofs.Roots.{inverse_root, inverse_roots}
-use Rattle.p3_matrix.specs.BitOrder.{rev}
-use Rattle.p3_matrix.proofs.BitReversal.{rev_of_zero, rev-rev}
-use Rattle.p3_matrix.proofs.Polynomials.ByIndex.{poly_same, poly-times}
-use Rattle.p3_networks.specs.Layers.{HoldsCells}
-use Rattle.p3_networks.specs.Twiddles.{backward_root}
-use Rattle.p3_networks.proofs.Layers.Blocks.{row_below}
-use Rattle.p3_networks.proofs.Layers.Counts.{counted_twice, layers_joined, two_halves}
-use Rattle.p3_networks.proofs.Layers.Joined.{scaled_layers}
-use Rattle.p3_networks.proofs.Networks.Cells.{twisted_cells, twisted_cells_end, twisted_cells_start, twisted_layers}
+use Rattle.p3_networks.proofs.Lemmas.{◌≡◌, ℕ, ◌+◌, ◌-◌, ◌*◌, ◌^◌, ◌≤◌, length, get_or, sym, ap, ◌∙◌, subst, arith, pow_pos, power, power-zero, inverse_root}
+use Rattle.p3_networks.proofs.Lemmas.{inverse_roots, rev, rev_of_zero, rev-rev, poly_same, poly-times, HoldsCells, backward_root, row_below, counted_twice}
+use Rattle.p3_networks.proofs.Lemmas.{layers_joined, two_halves, scaled_layers, twisted_cells, twisted_cells_end, twisted_cells_start, twisted_layers}
 use Rattle.p3_networks.proofs.tiles.scaled_dif_network.Goals as goal
 
 pub scaled_dif_tiles-requires-clause-first : goal.scaled_dif_tiles-requires-clause-first

@@ -1,7 +1,4 @@
-use Rattle.std.proofs.Common.{◌+◌, ◌-◌, ◌*◌, ◌/◌, length, arith}
-use Rattle.p3_networks.proofs.Layers.Shifts.{one_shifted}
-use Rattle.p3_networks.proofs.Layers.Tiles.{tile_rows, tile_sizes, tile_small, tile_some, tiles_cost}
-use Rattle.p3_networks.proofs.Rows.EachChunk.{cells_of_chunks}
+use Rattle.p3_networks.proofs.Lemmas.{◌+◌, ◌-◌, ◌*◌, ◌/◌, length, arith, one_shifted, tile_rows, tile_sizes, tile_small, tile_some, tiles_cost, cells_of_chunks}
 use Rattle.p3_networks.proofs.tiles.scaled_dif_tiles.Goals as goal
 
 pub on_each_chunk-requires-clause-whole : goal.on_each_chunk-requires-clause-whole

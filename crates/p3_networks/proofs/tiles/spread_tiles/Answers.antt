@@ -1,10 +1,5 @@
-use Rattle.std.proofs.Common.{◌+◌, ◌-◌, ◌*◌, ◌/◌, length, get_or, ap, arith}
-use Rattle.std.proofs.Math.Nat.{mul-le-mul_right}
-use Rattle.p3_networks.specs.Groups.{IsChunk}
-use Rattle.p3_networks.proofs.Layers.Counts.{rises_as}
-use Rattle.p3_networks.proofs.Layers.Tiles.{spread_room, tile_rows, tile_sizes, tile_small, tile_some, tiles_cost}
-use Rattle.p3_networks.proofs.Rows.EachChunk.{cells_of_chunks}
-use Rattle.p3_networks.proofs.Layers.Shifts.{one_shifted}
+use Rattle.p3_networks.proofs.Lemmas.{◌+◌, ◌-◌, ◌*◌, ◌/◌, length, get_or, ap, arith, mul-le-mul_right, IsChunk, rises_as, spread_room, tile_rows, tile_sizes}
+use Rattle.p3_networks.proofs.Lemmas.{tile_small, tile_some, tiles_cost, cells_of_chunks, one_shifted}
 use Rattle.p3_networks.proofs.tiles.spread_tiles.Goals as goal
 
 pub on_each_chunk-requires-clause-whole : goal.on_each_chunk-requires-clause-whole

@@ -1,13 +1,6 @@
-use Rattle.std.proofs.Common.{◌≡◌, ℕ, ◌+◌, ◌*◌, ◌^◌, [], ◌∷◌, ◌++◌, length, get_or, sym, ap, ◌∙◌, arith, add-one, length-append, ◌<◌, ◌≤◌, lit≤, subst}
-use Rattle.std.proofs.Math.Nat.{pow-le-pow_right}
-use Rattle.p3_matrix.proofs.Rooms.{room_of}
-use Rattle.std.proofs.lemmas.List.{get_or_push}
-use Rattle.p3_field.specs.Ring.{power}
-use Rattle.p3_field.proofs.Powers.{power-zero}
-use Rattle.p3_networks.specs.Twiddles.{layer_place}
+use Rattle.p3_networks.proofs.Lemmas.{◌≡◌, ℕ, ◌+◌, ◌*◌, ◌^◌, [], ◌∷◌, ◌++◌, length, get_or, sym, ap, ◌∙◌, arith, add-one, length-append, ◌<◌, ◌≤◌, lit≤, subst}
+use Rattle.p3_networks.proofs.Lemmas.{pow-le-pow_right, room_of, get_or_push, power, power-zero, layer_place, in_first, at_end}
 use Rattle.p3_networks.proofs.Tables.ReversedPowers.{powers_doubled, place_above, place_of_none, layer_step}
-use Rattle.p3_networks.proofs.Layers.Halves.{in_first}
-use Rattle.p3_networks.proofs.Layers.Counts.{at_end}
 use Rattle.p3_networks.proofs.twiddles.push_layer.Goals as goal
 use Rattle.p3_networks.proofs.twiddles.push_layer.Goals.{then-reversed, else-reversed}
 

@@ -1,6 +1,4 @@
-use Rattle.std.proofs.Common.{◌≡◌, ℕ, ◌+◌, ◌^◌, ◌<◌, length, get_or}
-use Rattle.p3_field.specs.Ring.{power}
-use Rattle.p3_networks.specs.Twiddles.{layer_place}
+use Rattle.p3_networks.proofs.Lemmas.{◌≡◌, ℕ, ◌+◌, ◌^◌, ◌<◌, length, get_or, power, layer_place}
 use Rattle.p3_networks.proofs.twiddles.push_layer.Given as goal
 
 -- the first 2 ^ l of them are there

@@ -1,7 +1,5 @@
-use Rattle.std.proofs.Common.{◌≡◌, ℕ, ◌+◌, ◌++◌, ◌<◌, ◌≤◌, List, [], ◌∷◌, length, get_or, length-append, refl, ap, ◌∙◌, arith, ⊎_elim}
-use Rattle.std.proofs.lemmas.Bool.{cases_lt}
-use Rattle.std.proofs.lemmas.List.{get_or_default}
-use Rattle.p3_networks.proofs.Layers.Halves.{in_first, in_second}
+use Rattle.p3_networks.proofs.Lemmas.{◌≡◌, ℕ, ◌+◌, ◌++◌, ◌<◌, ◌≤◌, List, [], ◌∷◌, length, get_or, length-append, refl, ap, ◌∙◌, arith, ⊎_elim, cases_lt}
+use Rattle.p3_networks.proofs.Lemmas.{get_or_default, in_first, in_second}
 use Rattle.p3_networks.proofs.twiddles.push_multiples.Goals as goal
 
 -- one multiple more

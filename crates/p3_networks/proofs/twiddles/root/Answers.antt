@@ -1,7 +1,5 @@
-use Rattle.std.proofs.Common.{◌≡◌, ℕ, sym, ap, ◌∙◌}
+use Rattle.p3_networks.proofs.Lemmas.{◌≡◌, ℕ, sym, ap, ◌∙◌, inverse_root, inverse_undoes, root_of}
 use Rattle.p3_field.proofs.Rings
-use Rattle.p3_field.proofs.Roots.{inverse_root, inverse_undoes}
-use Rattle.p3_networks.specs.Twiddles.{root_of}
 use Rattle.p3_networks.proofs.twiddles.root.Goals as goal
 
 pub inverse-requires : goal.inverse-requires

@@ -1,12 +1,6 @@
-use Rattle.std.proofs.Common.{◌≡◌, ◌+◌, ◌*◌, ◌-◌, ◌^◌, length, ap, ap₂, ◌∙◌, ◌≤◌, lit≤, arith, add-one, ℕ}
-use Rattle.std.proofs.Math.Nat.{pow-le-pow_right}
-use Rattle.p3_matrix.proofs.Rooms.{room_of}
-use Rattle.std.proofs.lemmas.Nat.{pow_pos}
-use Rattle.p3_field.specs.Ring.{power}
+use Rattle.p3_networks.proofs.Lemmas.{◌≡◌, ◌+◌, ◌*◌, ◌-◌, ◌^◌, length, ap, ap₂, ◌∙◌, ◌≤◌, lit≤, arith, add-one, ℕ, pow-le-pow_right, room_of, pow_pos, power}
+use Rattle.p3_networks.proofs.Lemmas.{root_powers, AreTwiddlesOfLayers, one_more_layer, at_end}
 use Rattle.p3_field.proofs.Rings
-use Rattle.p3_networks.specs.Twiddles.{root_powers, AreTwiddlesOfLayers}
-use Rattle.p3_networks.proofs.Tables.MoreTwiddles.{one_more_layer}
-use Rattle.p3_networks.proofs.Layers.Counts.{at_end}
 use Rattle.p3_networks.proofs.twiddles.twiddles_of_layers.Goals as goal
 
 full_more : (l before now : ℕ) → before ≡ 2 ^ l - 1 → now ≡ before + 2 ^ l → now ≡ 2 ^ (l + 1) - 1

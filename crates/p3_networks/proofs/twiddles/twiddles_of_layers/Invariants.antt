@@ -1,5 +1,4 @@
-use Rattle.std.proofs.Common.{◌≡◌, ◌-◌, ◌^◌, length}
-use Rattle.p3_networks.specs.Twiddles.{AreTwiddlesOfLayers, root_powers}
+use Rattle.p3_networks.proofs.Lemmas.{◌≡◌, ◌-◌, ◌^◌, length, AreTwiddlesOfLayers, root_powers}
 use Rattle.p3_networks.proofs.twiddles.twiddles_of_layers.Given as goal
 
 -- the first layers are there

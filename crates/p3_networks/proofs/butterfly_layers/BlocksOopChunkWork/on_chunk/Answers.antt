@@ -1,5 +1,4 @@
-use Rattle.std.proofs.Common.{◌∙◌, ap, length}
-use Rattle.p3_matrix.proofs.Rows.Overwritten.{part_size}
+use Rattle.p3_networks.proofs.Lemmas.{◌∙◌, ap, length, part_size}
 use Rattle.p3_networks.proofs.butterfly_layers.BlocksOopChunkWork.on_chunk.Goals as goal
 
 pub meet_block_oop-requires-clause-source : goal.meet_block_oop-requires-clause-source

@@ -1,7 +1,5 @@
-use Rattle.std.proofs.Common.{◌≡◌, ℕ, suc, zero, ◌+◌, ◌-◌, ◌<◌, List, [], ◌∷◌, length, get_or, map, take, drop, ap, ◌∙◌, arith, rules}
-use Rattle.p3_field.specs.Lanes.{by_lanes}
-use Rattle.p3_field.specs.Ring.{minus}
-use Rattle.p3_matrix.proofs.Rows.Overwritten.{part_at}
+use Rattle.p3_networks.proofs.Lemmas.{◌≡◌, ℕ, suc, zero, ◌+◌, ◌-◌, ◌<◌, List, [], ◌∷◌, length, get_or, map, take, drop, ap, ◌∙◌, arith, rules, by_lanes, minus}
+use Rattle.p3_networks.proofs.Lemmas.{part_at}
 use Rattle.p3_networks.proofs.butterfly_layers.rules.meet_by_place.Goals as goal
 
 -- an entry of what an operation makes of a list and of what another makes of two, all of one length

@@ -1,8 +1,6 @@
-use Rattle.std.proofs.Common.{◌≡◌, ℕ, ◌+◌, ◌*◌, ◌-◌, ◌<◌, ◌≤◌, ◌⊎◌, length, get_or, ap, ap₂, ◌∙◌, arith, inl, inr}
-use Rattle.std.proofs.Common.{⊎_elim, subst, sym, Fits-le, add-le-add, le-add_right, le_of_eq, le_refl, le_trans}
-use Rattle.p3_networks.proofs.Layers.Counts.{count_more, count_none, at_end}
-use Rattle.p3_networks.proofs.Layers.Halves.{block_room}
-use Rattle.p3_matrix.proofs.Rows.Overwritten.{rows-next, rows-all, rows-none}
+use Rattle.p3_networks.proofs.Lemmas.{◌≡◌, ℕ, ◌+◌, ◌*◌, ◌-◌, ◌<◌, ◌≤◌, ◌⊎◌, length, get_or, ap, ap₂, ◌∙◌, arith, inl, inr, ⊎_elim, subst, sym, Fits-le}
+use Rattle.p3_networks.proofs.Lemmas.{add-le-add, le-add_right, le_of_eq, le_refl, le_trans, count_more, count_none, at_end, block_room, rows-next, rows-all}
+use Rattle.p3_networks.proofs.Lemmas.{rows-none}
 use Rattle.p3_networks.proofs.groups.Columns.on_halves.Goals as goal
 
 pub overflow_mul-start : goal.overflow_mul-start

@@ -1,6 +1,4 @@
-use Rattle.std.proofs.Common.{◌+◌, ◌-◌, ◌*◌, ◌≤◌, get_or}
-use Rattle.p3_networks.proofs.Layers.Columns.{InColumns}
-use Rattle.p3_matrix.proofs.Rows.Overwritten.{RowsDone}
+use Rattle.p3_networks.proofs.Lemmas.{◌+◌, ◌-◌, ◌*◌, ◌≤◌, get_or, InColumns, RowsDone}
 use Rattle.p3_networks.proofs.groups.Columns.on_halves.Given as goal
 
 abbrev pub invariant-loop-t : goal.invariant-loop-t

@@ -1,6 +1,4 @@
-use Rattle.std.proofs.Common.{ℕ, ◌+◌, ◌*◌, ◌<◌, ap, ◌∙◌, arith}
-use Rattle.p3_networks.proofs.Layers.Blocks.{row_below}
-use Rattle.p3_networks.proofs.Layers.Halves.{in_first, in_second, of_halves}
+use Rattle.p3_networks.proofs.Lemmas.{ℕ, ◌+◌, ◌*◌, ◌<◌, ap, ◌∙◌, arith, row_below, in_first, in_second, of_halves}
 use Rattle.p3_networks.proofs.groups.ColumnsChunkWork.on_chunk.Goals as goal
 
 -- What is said of the rows of the two halves is said of the block, which is one half behind the other.

@@ -1,11 +1,6 @@
-use Rattle.std.proofs.Common.{◌≡◌, ℕ, ◌+◌, ◌*◌, ◌-◌, ◌^◌, ◌≤◌, length, sym, ap, ◌∙◌, subst, arith, Fits-le, le_refl, le-add_right}
-use Rattle.p3_networks.specs.Counts.{RisesAtMost}
-use Rattle.p3_networks.specs.Groups.{TakesColumns, cells_of}
-use Rattle.p3_networks.specs.Layers.{IsLayer}
-use Rattle.p3_networks.proofs.Layers.Groups.{block_there, columns_next, columns_none, layer_in_order, group_sizes, piece_layer_counted, piece_sizes}
-use Rattle.p3_networks.proofs.Layers.Chunks.{blocks_within, chunk_within}
-use Rattle.p3_networks.proofs.Layers.Counts.{at_end}
-use Rattle.p3_networks.proofs.Layers.Shifts.{one_shifted}
+use Rattle.p3_networks.proofs.Lemmas.{◌≡◌, ℕ, ◌+◌, ◌*◌, ◌-◌, ◌^◌, ◌≤◌, length, sym, ap, ◌∙◌, subst, arith, Fits-le, le_refl, le-add_right, RisesAtMost}
+use Rattle.p3_networks.proofs.Lemmas.{TakesColumns, cells_of, IsLayer, block_there, columns_next, columns_none, layer_in_order, group_sizes}
+use Rattle.p3_networks.proofs.Lemmas.{piece_layer_counted, piece_sizes, blocks_within, chunk_within, at_end, one_shifted}
 use Rattle.p3_networks.proofs.groups.GroupLayers.on_piece.Goals as goal
 
 pub overflow_shl-part : goal.overflow_shl-part

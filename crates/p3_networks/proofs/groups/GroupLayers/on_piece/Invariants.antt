@@ -1,6 +1,4 @@
-use Rattle.std.proofs.Common.{ℕ, ◌+◌, ◌-◌, ◌*◌, ◌^◌, ◌≤◌, length}
-use Rattle.p3_networks.specs.Counts.{RisesAtMost}
-use Rattle.p3_networks.specs.Groups.{AreLayersInOrder, HoldsColumns, TakesColumns, cells_of}
+use Rattle.p3_networks.proofs.Lemmas.{ℕ, ◌+◌, ◌-◌, ◌*◌, ◌^◌, ◌≤◌, length, RisesAtMost, AreLayersInOrder, HoldsColumns, TakesColumns, cells_of}
 use Rattle.p3_networks.proofs.groups.GroupLayers.on_piece.Given as goal
 
 abbrev pub invariant-loop-done : goal.invariant-loop-done

@@ -1,8 +1,6 @@
-use Rattle.std.proofs.Common.{ℕ, ◌+◌, ◌*◌, ◌-◌, ◌^◌, ◌≤◌, length, sym, ap, ◌∙◌, subst, Fits-le, le-add_right, le_of_lt, le_trans}
-use Rattle.p3_networks.specs.Groups.{HoldsColumns, TakesColumns, cells_of}
-use Rattle.p3_networks.proofs.Layers.Counts.{rises_as}
-use Rattle.p3_networks.proofs.Layers.Groups.{cover_counted, group_sizes, piece_held, piece_of, piece_start, pieces_all}
-use Rattle.p3_networks.proofs.Layers.Groups.{pieces_counted, pieces_cover, pieces_few, pieces_next}
+use Rattle.p3_networks.proofs.Lemmas.{ℕ, ◌+◌, ◌*◌, ◌-◌, ◌^◌, ◌≤◌, length, sym, ap, ◌∙◌, subst, Fits-le, le-add_right, le_of_lt, le_trans, HoldsColumns}
+use Rattle.p3_networks.proofs.Lemmas.{TakesColumns, cells_of, rises_as, cover_counted, group_sizes, piece_held, piece_of, piece_start, pieces_all}
+use Rattle.p3_networks.proofs.Lemmas.{pieces_counted, pieces_cover, pieces_few, pieces_next}
 use Rattle.p3_networks.proofs.groups.GroupLayersChunkWork.on_chunk.Goals as goal
 
 pub overflow_shl-part : goal.overflow_shl-part

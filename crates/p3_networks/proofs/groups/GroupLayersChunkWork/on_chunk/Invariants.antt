@@ -1,7 +1,4 @@
-use Rattle.std.proofs.Common.{ℕ, ◌+◌, ◌-◌, ◌*◌, ◌^◌, ◌≤◌, length}
-use Rattle.p3_networks.specs.Counts.{RisesAtMost}
-use Rattle.p3_networks.specs.Groups.{AreLayersInOrder, TakesColumns, cells_of}
-use Rattle.p3_networks.specs.Layers.{HoldsCells}
+use Rattle.p3_networks.proofs.Lemmas.{ℕ, ◌+◌, ◌-◌, ◌*◌, ◌^◌, ◌≤◌, length, RisesAtMost, AreLayersInOrder, TakesColumns, cells_of, HoldsCells}
 use Rattle.p3_networks.proofs.groups.GroupLayersChunkWork.on_chunk.Given as goal
 
 abbrev pub invariant-loop-p : goal.invariant-loop-p

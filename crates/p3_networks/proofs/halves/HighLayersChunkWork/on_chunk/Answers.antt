@@ -1,10 +1,4 @@
-use Rattle.std.proofs.Common.{◌≡◌, ℕ, ◌+◌, ◌*◌, ◌^◌, get_or, sym, ap, ◌∙◌, arith}
-use Rattle.p3_matrix.specs.BitOrder.{rev}
-use Rattle.p3_matrix.specs.Cosets.{point}
-use Rattle.p3_matrix.specs.Polynomials.{poly}
-use Rattle.p3_matrix.proofs.Polynomials.ByIndex.{poly-one}
-use Rattle.p3_networks.specs.Twiddles.{factor}
-use Rattle.p3_networks.proofs.Layers.Blocks.{row_below}
+use Rattle.p3_networks.proofs.Lemmas.{◌≡◌, ℕ, ◌+◌, ◌*◌, ◌^◌, get_or, sym, ap, ◌∙◌, arith, rev, point, poly, poly-one, factor, row_below}
 use Rattle.p3_networks.proofs.halves.HighLayersChunkWork.on_chunk.Goals as goal
 
 pub returns-then-self-eq0-clause-chunk : goal.returns-then-self-eq0-clause-chunk

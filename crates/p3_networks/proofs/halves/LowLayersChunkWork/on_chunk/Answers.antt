@@ -1,5 +1,4 @@
-use Rattle.std.proofs.Common.{◌∙◌, ap, length}
-use Rattle.p3_matrix.proofs.Rows.Overwritten.{part_size}
+use Rattle.p3_networks.proofs.Lemmas.{◌∙◌, ap, length, part_size}
 use Rattle.p3_networks.proofs.halves.LowLayersChunkWork.on_chunk.Goals as goal
 
 pub low_network_oop-requires-clause-source : goal.low_network_oop-requires-clause-source

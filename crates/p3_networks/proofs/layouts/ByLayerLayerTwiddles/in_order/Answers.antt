@@ -1,6 +1,4 @@
-use Rattle.std.proofs.Common.{suc, ◌^◌, ◌≤◌, arith, lit≤}
-use Rattle.std.proofs.Math.Nat.{pow-le-pow_right, two-pow-succ}
-use Rattle.std.proofs.lemmas.Nat.{one_shl}
+use Rattle.p3_networks.proofs.Lemmas.{suc, ◌^◌, ◌≤◌, arith, lit≤, pow-le-pow_right, two-pow-succ, one_shl}
 use Rattle.p3_networks.proofs.layouts.ByLayerLayerTwiddles.in_order.Goals as goal
 
 pub overflow_mul-result : goal.overflow_mul-result

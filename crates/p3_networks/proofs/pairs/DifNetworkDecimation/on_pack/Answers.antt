@@ -1,7 +1,4 @@
-use Rattle.std.proofs.Common.{sym, ap₂, ◌∙◌, arith}
-use Rattle.p3_field.specs.Ring.{minus}
-use Rattle.p3_networks.proofs.Layers.Pairs.{same_at}
-use Rattle.p3_matrix.proofs.Rows.Overwritten.{lane_at}
+use Rattle.p3_networks.proofs.Lemmas.{sym, ap₂, ◌∙◌, arith, minus, same_at, lane_at}
 use Rattle.p3_networks.proofs.pairs.DifNetworkDecimation.on_pack.Goals as goal
 
 pub returns-clause-pairs : goal.returns-clause-pairs

@@ -1,6 +1,4 @@
-use Rattle.std.proofs.Common.{ap, length, ◌∙◌}
-use Rattle.p3_matrix.proofs.Rows.Overwritten.{part_size}
-use Rattle.p3_networks.specs.Chunks.{chunk_of}
+use Rattle.p3_networks.proofs.Lemmas.{ap, length, ◌∙◌, part_size, chunk_of}
 use Rattle.p3_networks.proofs.pairs.PacksChunkWork.on_chunk.Goals as goal
 
 pub on_pack-requires-clause-twiddles : goal.on_pack-requires-clause-twiddles

@@ -1,12 +1,5 @@
-use Rattle.std.proofs.Common.{◌≡◌, ◌+◌, ◌*◌, ◌-◌, ◌^◌, leb, length, ap, ap₂, ◌∙◌, ◌≤◌, lit≤, arith, add-one}
-use Rattle.std.proofs.Math.Nat.{pow-le-pow_right}
-use Rattle.p3_matrix.proofs.Rooms.{room_of}
-use Rattle.std.proofs.lemmas.Nat.{pow_pos}
-use Rattle.p3_field.specs.Ring.{power}
-use Rattle.p3_matrix.specs.BitOrder.{mid_of}
-use Rattle.p3_networks.specs.Twiddles.{AreTwiddlesOfLayers, coset_twiddles, forward_root, layer_place}
-use Rattle.p3_networks.proofs.Tables.MoreTwiddles.{one_more_layer}
-use Rattle.p3_networks.proofs.Layers.Counts.{at_end}
+use Rattle.p3_networks.proofs.Lemmas.{◌≡◌, ◌+◌, ◌*◌, ◌-◌, ◌^◌, leb, length, ap, ap₂, ◌∙◌, ◌≤◌, lit≤, arith, add-one, pow-le-pow_right, room_of, pow_pos, power}
+use Rattle.p3_networks.proofs.Lemmas.{mid_of, AreTwiddlesOfLayers, coset_twiddles, forward_root, layer_place, one_more_layer, at_end}
 use Rattle.p3_networks.proofs.radix_2_dit_parallel.coset_tables.coset_layers.Goals as goal
 
 pub loop-l-preserved : goal.loop-l-preserved

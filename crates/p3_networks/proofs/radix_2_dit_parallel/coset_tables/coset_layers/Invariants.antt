@@ -1,6 +1,4 @@
-use Rattle.std.proofs.Common.{◌≡◌, ◌-◌, ◌^◌, leb, length}
-use Rattle.p3_matrix.specs.BitOrder.{mid_of}
-use Rattle.p3_networks.specs.Twiddles.{AreTwiddlesOfLayers, coset_twiddles, forward_root, layer_place}
+use Rattle.p3_networks.proofs.Lemmas.{◌≡◌, ◌-◌, ◌^◌, leb, length, mid_of, AreTwiddlesOfLayers, coset_twiddles, forward_root, layer_place}
 use Rattle.p3_networks.proofs.radix_2_dit_parallel.coset_tables.coset_layers.Given as goal
 
 -- the first layers are there

@@ -1,8 +1,4 @@
-use Rattle.std.proofs.Common.{◌+◌, sym, ap, ap₂, ◌∙◌}
-use Rattle.p3_field.specs.Ring.{power}
-use Rattle.p3_matrix.specs.BitOrder.{rev}
-use Rattle.p3_networks.specs.Twiddles.{forward_root}
-use Rattle.p3_matrix.proofs.Polynomials.Cosets.{point-mul}
+use Rattle.p3_networks.proofs.Lemmas.{◌+◌, sym, ap, ap₂, ◌∙◌, power, rev, forward_root, point-mul}
 use Rattle.p3_networks.proofs.radix_2_dit_parallel.coset_tables.slot_shift.Goals as goal
 
 pub returns : goal.returns

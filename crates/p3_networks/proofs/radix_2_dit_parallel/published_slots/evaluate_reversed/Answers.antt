@@ -1,11 +1,6 @@
-use Rattle.std.proofs.Common.{◌≡◌, ℕ, ◌-◌, ◌*◌, ◌/◌, ◌^◌, length, ap, ◌∙◌, subst, arith}
-use Rattle.p3_networks.specs.Chunks.{source_of}
-use Rattle.p3_networks.specs.Counts.{RisesAtMost}
-use Rattle.p3_networks.specs.Halves.{IsLowHalf}
-use Rattle.p3_matrix.specs.BitOrder.{mid_of}
-use Rattle.p3_networks.specs.Twiddles.{by_layer, IsCosetTable}
+use Rattle.p3_networks.proofs.Lemmas.{◌≡◌, ℕ, ◌-◌, ◌*◌, ◌/◌, ◌^◌, length, ap, ◌∙◌, subst, arith, source_of, RisesAtMost, IsLowHalf, mid_of, by_layer}
+use Rattle.p3_networks.proofs.Lemmas.{IsCosetTable, layer_there}
 use Rattle.p3_networks.proofs.Networks.CosetHalves.{both_counted, both_rows, halves_whole, lent_on_coset}
-use Rattle.p3_networks.proofs.Tables.MoreTwiddles.{layer_there}
 use Rattle.p3_networks.proofs.radix_2_dit_parallel.published_slots.evaluate_reversed.Goals as goal
 use Rattle.p3_networks.proofs.radix_2_dit_parallel.published_slots.evaluate_reversed.Goals.{in-Some, in-None}
 

@@ -1,20 +1,9 @@
-use Rattle.std.specs.Prelude.{IsPermutation}
-use Rattle.std.proofs.Common.{ℕ, ◌≡◌, ◌+◌, ◌*◌, ◌-◌, ◌/◌, ◌++◌, ◌≤◌, ◌^◌, length, refl, sym, ap, ◌∙◌, subst, arith, le_of_eq, le_refl}
-use Rattle.std.proofs.Math.Nat.{mul-le-mul_right}
-use Rattle.std.proofs.lemmas.List.Sorted.{IsPermutation-append_comm}
-use Rattle.std.proofs.lemmas.Nat.{pow_pos}
-use Rattle.std.proofs.lemmas.Result.{MatchResult-weaker}
-use Rattle.p3_matrix.specs.BitOrder.{rev, mid_of}
-use Rattle.p3_matrix.proofs.BitReversal.{rev-lt}
-use Rattle.p3_networks.specs.Slots.{extended_rows, slot_blocks}
-use Rattle.p3_networks.proofs.Layers.Counts.{rises_joined, rises_within}
-use Rattle.p3_networks.proofs.Layers.Sizes.{second_shift}
-use Rattle.p3_networks.proofs.Networks.SlotPlaces.{blocks_all, blocks_whole, cells_whole, first_ends, front_told, others_told}
-use Rattle.p3_networks.proofs.Networks.SlotPlaces.{refused_in_first, refused_in_others, slot_lent}
-use Rattle.p3_networks.proofs.Networks.Slots.{is_slot, others_long, others_whole, rows_of_slots, slot_size}
-use Rattle.p3_networks.proofs.Rows.Lent.{run_joined}
-use Rattle.p3_networks.proofs.Tables.CosetTables.{coset_read}
-use Rattle.p3_networks.proofs.Tables.RootPowers.{fewer_roots}
+use Rattle.p3_networks.proofs.Lemmas.{IsPermutation, ℕ, ◌≡◌, ◌+◌, ◌*◌, ◌-◌, ◌/◌, ◌++◌, ◌≤◌, ◌^◌, length, refl, sym, ap, ◌∙◌, subst, arith, le_of_eq, le_refl}
+use Rattle.p3_networks.proofs.Lemmas.{mul-le-mul_right, IsPermutation-append_comm, pow_pos, MatchResult-weaker, rev, mid_of, rev-lt, extended_rows, slot_blocks}
+use Rattle.p3_networks.proofs.Lemmas.{rises_joined, rises_within, second_shift, blocks_all, cells_whole, first_ends, front_told, others_told, refused_in_first}
+use Rattle.p3_networks.proofs.Lemmas.{refused_in_others, slot_lent, is_slot, others_long, others_whole, rows_of_slots, slot_size, run_joined, coset_read}
+use Rattle.p3_networks.proofs.Lemmas.{fewer_roots}
+use Rattle.p3_networks.proofs.Networks.SlotPlaces.{blocks_whole}
 use Rattle.p3_networks.proofs.radix_2_dit_parallel.published_slots.extend_slots.Goals as goal
 
 pub lend_each_chunk-requires-clause-whole : goal.lend_each_chunk-requires-clause-whole

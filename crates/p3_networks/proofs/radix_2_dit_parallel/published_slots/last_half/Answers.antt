@@ -1,20 +1,7 @@
-use Rattle.std.proofs.Common.{◌≡◌, ℕ, ◌+◌, ◌*◌, ◌/◌, ◌^◌, ◌<◌, ◌≤◌, List, length, get_or, refl, ap, ◌∙◌, subst, arith, add-one-le, le_of_eq}
-use Rattle.std.proofs.lemmas.Nat.{pow-add, pow_pos}
-use Rattle.std.proofs.lemmas.Result.{MatchResult-weaker}
+use Rattle.p3_networks.proofs.Lemmas.{◌≡◌, ℕ, ◌+◌, ◌*◌, ◌/◌, ◌^◌, ◌<◌, ◌≤◌, List, length, get_or, refl, ap, ◌∙◌, subst, arith, add-one-le, le_of_eq, pow-add}
+use Rattle.p3_networks.proofs.Lemmas.{pow_pos, MatchResult-weaker, rev, point, poly_same, chunk_of, RisesAtMost, IsHighHalf, IsHighNetwork, AreRows, row_below}
+use Rattle.p3_networks.proofs.Lemmas.{one_shifted, first_shift, TileSizes, shifted_sizes, row_digits, row_taken}
 use Rattle.p3_field.specs.declared.fields.Valued.{Ghosts as FieldMembers}
-use Rattle.p3_matrix.specs.BitOrder.{rev}
-use Rattle.p3_matrix.specs.Cosets.{point}
-use Rattle.p3_matrix.proofs.Polynomials.ByIndex.{poly_same}
-use Rattle.p3_networks.specs.Chunks.{chunk_of}
-use Rattle.p3_networks.specs.Counts.{RisesAtMost}
-use Rattle.p3_networks.specs.Halves.{IsHighHalf, IsHighNetwork}
-use Rattle.p3_networks.specs.Layers.{AreRows}
-use Rattle.p3_networks.proofs.Layers.Blocks.{row_below}
-use Rattle.p3_networks.proofs.Layers.Shifts.{one_shifted}
-use Rattle.p3_networks.proofs.Layers.Sizes.{first_shift}
-use Rattle.p3_networks.proofs.Layers.Tiles.{TileSizes, shifted_sizes}
-use Rattle.p3_networks.proofs.Networks.Chunks.{row_digits}
-use Rattle.p3_networks.proofs.Rows.EachChunk.{row_taken}
 use Rattle.p3_networks.proofs.radix_2_dit_parallel.published_slots.last_half.Goals as goal
 
 -- the sizes of the chunks of reversed rows

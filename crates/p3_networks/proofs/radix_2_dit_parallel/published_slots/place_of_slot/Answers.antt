@@ -1,5 +1,4 @@
-use Rattle.std.proofs.Common.{sym, subst}
-use Rattle.p3_matrix.specs.Cosets.{HasCoset, IsCosetAt}
+use Rattle.p3_networks.proofs.Lemmas.{sym, subst, HasCoset, IsCosetAt}
 use Rattle.p3_networks.proofs.radix_2_dit_parallel.published_slots.place_of_slot.Goals as goal
 
 pub place_of-requires : goal.place_of-requires

@@ -1,10 +1,5 @@
-use Rattle.std.proofs.Common.{◌≡◌, ℕ, ◌+◌, ◌*◌, ◌^◌, get_or, sym, ap, ◌∙◌, arith}
-use Rattle.p3_field.specs.Ring.{power}
-use Rattle.p3_matrix.specs.BitOrder.{rev}
-use Rattle.p3_matrix.specs.Polynomials.{poly}
-use Rattle.p3_networks.specs.Twiddles.{forward_root}
-use Rattle.p3_matrix.proofs.Polynomials.ByIndex.{poly-one}
-use Rattle.p3_networks.proofs.Tables.FromStart.{enough_from_start, first_is_one}
+use Rattle.p3_networks.proofs.Lemmas.{◌≡◌, ℕ, ◌+◌, ◌*◌, ◌^◌, get_or, sym, ap, ◌∙◌, arith, power, rev, poly, forward_root, poly-one, enough_from_start}
+use Rattle.p3_networks.proofs.Lemmas.{first_is_one}
 use Rattle.p3_networks.proofs.radix_2_small_batch.slots.evaluate_to_reversed.Goals as goal
 
 pub dit_network_to_reversed-requires-clause-first : goal.dit_network_to_reversed-requires-clause-first

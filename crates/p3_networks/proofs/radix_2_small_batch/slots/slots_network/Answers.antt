@@ -1,13 +1,6 @@
-use Rattle.std.proofs.Common.{◌≡◌, ℕ, ◌+◌, ◌*◌, ◌-◌, ◌/◌, ◌≤◌, ◌^◌, length, get_or, sym, ap, ◌∙◌, arith}
-use Rattle.p3_matrix.specs.BitOrder.{rev}
-use Rattle.p3_matrix.specs.Cosets.{point}
-use Rattle.p3_matrix.specs.Polynomials.{poly}
-use Rattle.p3_networks.specs.Twiddles.{forward_root}
-use Rattle.p3_networks.proofs.Layers.Blocks.{block_within}
-use Rattle.p3_networks.proofs.Layers.Sizes.{first_shift, second_shift}
-use Rattle.p3_networks.proofs.Networks.Slots.{first_coset, is_slot, of_front, other_rows, others_whole, rows_of_slots, slot_of_shifted}
-use Rattle.p3_networks.proofs.Networks.Slots.{slot_size, slots_counted}
-use Rattle.p3_networks.proofs.Tables.RootPowers.{fewer_roots}
+use Rattle.p3_networks.proofs.Lemmas.{◌≡◌, ℕ, ◌+◌, ◌*◌, ◌-◌, ◌/◌, ◌≤◌, ◌^◌, length, get_or, sym, ap, ◌∙◌, arith, rev, point, poly, forward_root, block_within}
+use Rattle.p3_networks.proofs.Lemmas.{first_shift, second_shift, first_coset, is_slot, of_front, other_rows, others_whole, rows_of_slots, slot_of_shifted}
+use Rattle.p3_networks.proofs.Lemmas.{slot_size, slots_counted, fewer_roots}
 use Rattle.p3_networks.proofs.radix_2_small_batch.slots.slots_network.Goals as goal
 
 pub on_each_chunk-requires-clause-whole : goal.on_each_chunk-requires-clause-whole

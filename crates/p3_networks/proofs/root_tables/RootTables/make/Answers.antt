@@ -1,7 +1,5 @@
-use Rattle.std.proofs.Common.{◌≡◌, ◌+◌, ◌-◌, ◌^◌, ap, ◌∙◌, sym, arith, subst, inr, refl}
-use Rattle.p3_field.proofs.Roots.{inverse_roots}
-use Rattle.p3_networks.specs.Twiddles.{AreTwiddles, backward_root, block_powers, forward_root}
-use Rattle.p3_networks.proofs.Layers.Counts.{half_power}
+use Rattle.p3_networks.proofs.Lemmas.{◌≡◌, ◌+◌, ◌-◌, ◌^◌, ap, ◌∙◌, sym, arith, subst, inr, refl, inverse_roots, AreTwiddles, backward_root, block_powers}
+use Rattle.p3_networks.proofs.Lemmas.{forward_root, half_power}
 use Rattle.p3_networks.proofs.Tables.FromStart.{first_entries, powers_from_one}
 use Rattle.p3_networks.proofs.root_tables.RootTables.make.Goals as goal
 

@@ -1,9 +1,7 @@
-use Rattle.std.proofs.Common.{◌≡◌, ℕ, ◌+◌, ◌-◌, ◌*◌, ◌++◌, ◌<◌, ◌≤◌, ◌^◌, length, get_or, take, drop, sym, ap, ◌∙◌, subst, arith}
-use borrow.Author.Rules.{scaled_Fits}
-use Rattle.std.proofs.lemmas.List.{get_or_default}
-use Rattle.p3_matrix.specs.Butterflies.{dif_far}
-use Rattle.p3_networks.specs.Layers.{HoldsCells}
+use Rattle.p3_networks.proofs.Lemmas.{◌≡◌, ℕ, ◌+◌, ◌-◌, ◌*◌, ◌++◌, ◌<◌, ◌≤◌, ◌^◌, length, get_or, take, drop, sym, ap, ◌∙◌, subst, arith, get_or_default}
+use Rattle.p3_networks.proofs.Lemmas.{dif_far, HoldsCells}
 use Rattle.p3_networks.proofs.Layers.Joined.{half_sizes, high_held, joined_counted, joined_held, low_held}
+use borrow.Author.Rules.{scaled_Fits}
 use Rattle.p3_networks.proofs.tiles.ScaledTileLayersChunkWork.on_chunk.Goals as goal
 
 some_layer : (r : ℕ) → (r ≡ 0 → ⊥) → 1 ≤ r

@@ -1,8 +1,6 @@
-use Rattle.std.proofs.Common.{◌≡◌, ℕ, ◌+◌, ◌*◌, ◌/◌, ◌<◌, ◌≤◌, length, get_or, sym, ap, ap₂, ◌∙◌, subst, arith, Fits-le, le_of_lt, mul-le-mul_left}
+use Rattle.p3_networks.proofs.Lemmas.{◌≡◌, ℕ, ◌+◌, ◌*◌, ◌/◌, ◌<◌, ◌≤◌, length, get_or, sym, ap, ap₂, ◌∙◌, subst, arith, Fits-le, le_of_lt, mul-le-mul_left}
+use Rattle.p3_networks.proofs.Lemmas.{get_or_default, power, part_at, part_size}
 use borrow.Author.Rules.{scaled_Fits}
-use Rattle.std.proofs.lemmas.List.{get_or_default}
-use Rattle.p3_field.specs.Ring.{power}
-use Rattle.p3_matrix.proofs.Rows.Overwritten.{part_at, part_size}
 use Rattle.p3_networks.proofs.tiles.SpreadRowsChunkWork.on_chunk.Goals as goal
 
 -- the root of a row is one of the twiddles

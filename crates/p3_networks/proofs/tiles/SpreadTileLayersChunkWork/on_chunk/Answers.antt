@@ -1,14 +1,7 @@
-use Rattle.std.proofs.Common.{◌≡◌, ℕ, suc, refl, ◌+◌, ◌-◌, ◌*◌, ◌/◌, ◌^◌, ◌<◌, ◌≤◌, length, get_or, sym, ap, ◌∙◌, subst}
-use Rattle.std.proofs.Common.{arith, add-sub_of_le, add-zero, le_refl, lt_of_le_of_lt, mul-le-mul_right}
-use Rattle.std.proofs.Common.{sub-le}
-use Rattle.p3_field.specs.Ring.{power}
-use Rattle.p3_networks.specs.Layers.{HoldsCells}
-use Rattle.p3_networks.proofs.Layers.Chunks.{chunk_digits}
-use Rattle.p3_networks.proofs.Layers.Counts.{turns_halved}
-use Rattle.p3_networks.proofs.Layers.Halves.{block_size}
+use Rattle.p3_networks.proofs.Lemmas.{◌≡◌, ℕ, suc, refl, ◌+◌, ◌-◌, ◌*◌, ◌/◌, ◌^◌, ◌<◌, ◌≤◌, length, get_or, sym, ap, ◌∙◌, subst, arith, add-sub_of_le, add-zero}
+use Rattle.p3_networks.proofs.Lemmas.{le_refl, lt_of_le_of_lt, mul-le-mul_right, sub-le, power, HoldsCells, chunk_digits, turns_halved, block_size, one_shifted}
+use Rattle.p3_networks.proofs.Lemmas.{row_at}
 use Rattle.p3_networks.proofs.Layers.Tiles.{spread_held, spread_sizes}
-use Rattle.p3_networks.proofs.Layers.Shifts.{one_shifted}
-use Rattle.p3_networks.proofs.Rows.EachChunk.{row_at}
 use Rattle.p3_networks.proofs.tiles.SpreadTileLayersChunkWork.on_chunk.Goals as goal
 
 -- what comes after a row ends within all rows

@@ -1,5 +1,4 @@
-use Rattle.std.proofs.Common.{IsTrue, sym, subst}
-use Rattle.p3_matrix.specs.Cosets.{Coset, IsCosetOf}
+use Rattle.p3_networks.proofs.Lemmas.{IsTrue, sym, subst, Coset, IsCosetOf}
 use Rattle.p3_networks.proofs.radix_2_dit_parallel.coset_tables.CosetTable.is_of.Goals as goal
 
 pub returns-then-self-log_h : goal.returns-then-self-log_h

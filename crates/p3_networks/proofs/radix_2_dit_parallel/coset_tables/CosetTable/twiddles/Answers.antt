@@ -1,6 +1,4 @@
-use Rattle.std.proofs.Common.{sym, subst}
-use Rattle.p3_matrix.specs.Cosets.{Coset}
-use Rattle.p3_networks.specs.Twiddles.{IsCosetTable}
+use Rattle.p3_networks.proofs.Lemmas.{sym, subst, Coset, IsCosetTable}
 use Rattle.p3_networks.proofs.radix_2_dit_parallel.coset_tables.CosetTable.twiddles.Goals as goal
 
 pub returns-clause-table : goal.returns-clause-table

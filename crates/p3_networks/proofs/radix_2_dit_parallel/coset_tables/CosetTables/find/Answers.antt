@@ -1,5 +1,4 @@
-use Rattle.std.proofs.Common.{rules, arith, ⊎_elim}
-use Rattle.std.proofs.lemmas.Bool.{cases_lt}
+use Rattle.p3_networks.proofs.Lemmas.{rules, arith, ⊎_elim, cases_lt}
 use Rattle.p3_networks.proofs.radix_2_dit_parallel.coset_tables.CosetTables.find.Goals as goal
 
 pub returns-clause-none : goal.returns-clause-none

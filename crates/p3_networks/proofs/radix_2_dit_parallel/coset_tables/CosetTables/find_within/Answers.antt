@@ -1,7 +1,4 @@
-use Rattle.std.proofs.Common.{◌≡◌, Bool, false, IsTrue, refl, arith, ⊎_elim, subst}
-use Rattle.std.proofs.lemmas.Bool.{cases_lt}
-use Rattle.p3_matrix.specs.Cosets.{IsCosetAt}
-use Rattle.p3_networks.proofs.Tables.CosetTables.{coset_read, coset_found}
+use Rattle.p3_networks.proofs.Lemmas.{◌≡◌, Bool, false, IsTrue, refl, arith, ⊎_elim, subst, cases_lt, IsCosetAt, coset_read, coset_found}
 use Rattle.p3_networks.proofs.radix_2_dit_parallel.coset_tables.CosetTables.find_within.Goals as goal
 
 not_both : (b : Bool) → b ≡ false → IsTrue b → ⊥

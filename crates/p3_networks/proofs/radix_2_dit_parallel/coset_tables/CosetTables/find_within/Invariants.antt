@@ -1,5 +1,4 @@
-use Rattle.std.proofs.Common.{ℕ, ◌<◌, ◌≤◌}
-use Rattle.p3_matrix.specs.Cosets.{IsCosetAt}
+use Rattle.p3_networks.proofs.Lemmas.{ℕ, ◌<◌, ◌≤◌, IsCosetAt}
 use Rattle.p3_networks.proofs.radix_2_dit_parallel.coset_tables.CosetTables.find_within.Given as goal
 
 -- none of those so far is that of the coset

@@ -1,5 +1,4 @@
-use Rattle.std.proofs.Common.{◌<◌, length, get_or, sym, ap, ◌∙◌, subst}
-use Rattle.std.proofs.lemmas.List.{get_or_default}
+use Rattle.p3_networks.proofs.Lemmas.{◌<◌, length, get_or, sym, ap, ◌∙◌, subst, get_or_default}
 use Rattle.p3_networks.proofs.radix_2_dit_parallel.coset_tables.CosetTables.get.Goals as goal
 
 pub returns : goal.returns

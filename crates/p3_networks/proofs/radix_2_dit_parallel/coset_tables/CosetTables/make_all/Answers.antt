@@ -1,17 +1,10 @@
-use Rattle.std.proofs.Common.{◌≡◌, ◌⊎◌, inl, inr, ℕ, ◌+◌, ◌^◌, ◌<◌, ◌≤◌, ◌++◌, List, [], ◌∷◌, length, length-append}
-use Rattle.std.proofs.Common.{refl, sym, ap, ◌∙◌, subst, arith, le-add_right, pow_pos, le_of_eq, lt_of_lt_of_le}
-use Rattle.std.proofs.Common.{le_trans, lt_irrefl}
-use Rattle.std.proofs.lemmas.Bool.{false≢true}
-use Rattle.std.proofs.lemmas.List.{append-nil, append_assoc}
-use Rattle.std.proofs.lemmas.List.Elements.{All-append, All-cons, All-nil}
-use borrow.Author.Count.{below_more, below_none}
-use Rattle.p3_field.specs.declared.fields.Valued.{Ghosts as FieldMembers}
-use Rattle.p3_matrix.specs.BitOrder.{rev}
-use Rattle.p3_matrix.specs.Cosets.{point, AddsCosets, Coset, HasCoset, IsCosetAt, IsOneOf}
-use Rattle.p3_matrix.proofs.BitReversal.{rev-lt}
-use Rattle.p3_networks.specs.Twiddles.{forward_root}
+use Rattle.p3_networks.proofs.Lemmas.{◌≡◌, ◌⊎◌, inl, inr, ℕ, ◌+◌, ◌^◌, ◌<◌, ◌≤◌, ◌++◌, List, [], ◌∷◌, length, length-append, refl, sym, ap, ◌∙◌, subst, arith}
+use Rattle.p3_networks.proofs.Lemmas.{le-add_right, pow_pos, le_of_eq, lt_of_lt_of_le, le_trans, lt_irrefl, false≢true, append-nil, append_assoc, All-append}
+use Rattle.p3_networks.proofs.Lemmas.{All-cons, All-nil, rev, point, AddsCosets, Coset, HasCoset, IsCosetAt, IsOneOf, rev-lt, forward_root}
 use Rattle.p3_networks.proofs.Tables.CosetTables.{coset_kept, none_behind_kept}
 use Rattle.p3_networks.proofs.Tables.CosetsApart.{slot_of_coset, slots_differ}
+use borrow.Author.Count.{below_more, below_none}
+use Rattle.p3_field.specs.declared.fields.Valued.{Ghosts as FieldMembers}
 use Rattle.p3_networks.proofs.radix_2_dit_parallel.coset_tables.CosetTables.make_all.Goals as goal
 
 -- the tables so far, where one of the cosets may be added at the end

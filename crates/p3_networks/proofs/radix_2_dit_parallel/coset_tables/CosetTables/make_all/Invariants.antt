@@ -1,7 +1,4 @@
-use Rattle.std.proofs.Common.{◌≡◌, ℕ, ◌+◌, ◌<◌, ◌≤◌, length}
-use Rattle.p3_matrix.specs.BitOrder.{rev}
-use Rattle.p3_matrix.specs.Cosets.{point, AddsCosets, HasCoset, HasCosets, IsCosetAt}
-use Rattle.p3_networks.specs.Twiddles.{forward_root}
+use Rattle.p3_networks.proofs.Lemmas.{◌≡◌, ℕ, ◌+◌, ◌<◌, ◌≤◌, length, rev, point, AddsCosets, HasCoset, HasCosets, IsCosetAt, forward_root}
 use Rattle.p3_networks.proofs.radix_2_dit_parallel.coset_tables.CosetTables.make_all.Given as goal
 
 -- the cosets of the first slots have their tables, and none of those that were made is of another slot's

@@ -1,8 +1,6 @@
-use Rattle.std.proofs.Common.{◌≡◌, ℕ, ◌+◌, ◌++◌, List, [], ◌∷◌, length, get_or, length-append, refl, sym, ap, ◌∙◌, subst, arith, rules, inr, ◌<◌, ◌≤◌, ⊎_elim}
-use Rattle.std.proofs.lemmas.Bool.{cases_lt}
-use Rattle.p3_matrix.specs.Cosets.{Coset, HasCoset, IsCosetAt, IsCosetOf}
+use Rattle.p3_networks.proofs.Lemmas.{◌≡◌, ℕ, ◌+◌, ◌++◌, List, [], ◌∷◌, length, get_or, length-append, refl, sym, ap, ◌∙◌, subst, arith, rules, inr, ◌<◌, ◌≤◌}
+use Rattle.p3_networks.proofs.Lemmas.{⊎_elim, cases_lt, Coset, HasCoset, IsCosetAt, IsCosetOf, in_second}
 use Rattle.p3_field.specs.declared.fields.Valued.{Ghosts as FieldMembers}
-use Rattle.p3_networks.proofs.Layers.Halves.{in_second}
 use Rattle.p3_networks.proofs.radix_2_dit_parallel.coset_tables.CosetTables.make_among.Goals as goal
 
 -- a table that was added at the end

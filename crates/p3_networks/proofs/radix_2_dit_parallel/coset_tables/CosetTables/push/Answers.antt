@@ -1,10 +1,7 @@
-use Rattle.std.proofs.Common.{◌≡◌, ◌<◌, ◌≤◌, ℕ, List, [], ◌∷◌, ◌++◌, length, sym, ap, ◌∙◌, subst, ⊎_elim}
-use Rattle.std.proofs.lemmas.Bool.{cases_lt}
-use Rattle.p3_field.specs.declared.fields.Valued.{Ghosts as FieldMembers}
-use Rattle.p3_networks.specs.CosetTables.{HasEachOnce}
-use Rattle.p3_matrix.specs.Cosets.{Coset, HasCoset, IsCosetAt}
-use Rattle.p3_networks.specs.Twiddles.{items_if_any}
+use Rattle.p3_networks.proofs.Lemmas.{◌≡◌, ◌<◌, ◌≤◌, ℕ, List, [], ◌∷◌, ◌++◌, length, sym, ap, ◌∙◌, subst, ⊎_elim, cases_lt, HasEachOnce, Coset, HasCoset}
+use Rattle.p3_networks.proofs.Lemmas.{IsCosetAt, items_if_any}
 use Rattle.p3_networks.proofs.Tables.CosetTables.{last_place, place_before}
+use Rattle.p3_field.specs.declared.fields.Valued.{Ghosts as FieldMembers}
 use Rattle.p3_networks.proofs.radix_2_dit_parallel.coset_tables.CosetTables.push.Goals as goal
 use Rattle.p3_networks.proofs.radix_2_dit_parallel.coset_tables.CosetTables.push.Goals.{in-Some, in-None+in_ok-tables-in-None}
 

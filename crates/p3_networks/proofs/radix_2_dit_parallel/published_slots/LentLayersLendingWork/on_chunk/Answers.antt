@@ -1,10 +1,5 @@
-use Rattle.std.proofs.Common.{◌≡◌, ◌+◌, ◌*◌, ◌<◌, ◌^◌, ℕ, Fits, Fits-le, w64, le-add_left, length, ap, ◌∙◌, subst, arith}
-use Rattle.std.proofs.Math.Nat.{mul-div_cancel}
-use Rattle.p3_matrix.specs.RowMajor.{RowMajor}
-use Rattle.p3_networks.proofs.Layers.Counts.{rises_halved}
-use Rattle.p3_networks.proofs.Layers.Shifts.{one_shifted}
-use Rattle.p3_networks.proofs.Layers.Sizes.{second_shift}
-use Rattle.p3_networks.proofs.Rows.Lent.{lent_once}
+use Rattle.p3_networks.proofs.Lemmas.{◌≡◌, ◌+◌, ◌*◌, ◌<◌, ◌^◌, ℕ, Fits, Fits-le, w64, le-add_left, length, ap, ◌∙◌, subst, arith, mul-div_cancel, RowMajor}
+use Rattle.p3_networks.proofs.Lemmas.{rises_halved, one_shifted, second_shift, lent_once}
 use Rattle.p3_networks.proofs.Tables.BlockTables.{blocks_within}
 use Rattle.p3_networks.proofs.radix_2_dit_parallel.published_slots.LentLayersLendingWork.on_chunk.Goals as goal
 

@@ -1,10 +1,5 @@
-use Rattle.std.proofs.Common.{◌+◌, ◌-◌, ◌^◌, ◌∙◌}
-use Rattle.p3_matrix.specs.BitOrder.{rev, mid_of}
-use Rattle.p3_matrix.proofs.BitReversal.{rev-lt}
-use Rattle.p3_networks.proofs.Networks.SlotPlaces.{slot_ends, slot_first, slot_lent, slot_starts}
-use Rattle.p3_networks.proofs.Networks.Slots.{slot_number}
-use Rattle.p3_networks.proofs.Tables.CosetTables.{coset_read}
-use Rattle.p3_networks.proofs.Tables.RootPowers.{fewer_roots}
+use Rattle.p3_networks.proofs.Lemmas.{◌+◌, ◌-◌, ◌^◌, ◌∙◌, rev, mid_of, rev-lt, slot_ends, slot_first, slot_lent, slot_starts, slot_number, coset_read}
+use Rattle.p3_networks.proofs.Lemmas.{fewer_roots}
 use Rattle.p3_networks.proofs.radix_2_dit_parallel.published_slots.OtherSlotsLendingWork.on_chunk.Goals as goal
 
 pub overflow_add-slot : goal.overflow_add-slot

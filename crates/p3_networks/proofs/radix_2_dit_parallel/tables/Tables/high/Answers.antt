@@ -1,5 +1,4 @@
-use Rattle.std.proofs.Common.{ℕ, Bool, sym, subst}
-use Rattle.p3_networks.specs.Twiddles.{AreTwiddlesFromStart, block_powers, root_of}
+use Rattle.p3_networks.proofs.Lemmas.{ℕ, Bool, sym, subst, AreTwiddlesFromStart, block_powers, root_of}
 use Rattle.p3_networks.proofs.radix_2_dit_parallel.tables.Tables.high.Goals as goal
 
 pub returns-then-inverse-clause-table : goal.returns-then-inverse-clause-table

@@ -1,8 +1,5 @@
-use Rattle.std.proofs.Common.{◌≡◌, ℕ, ◌⊎◌, inl, inr, ◌+◌, ◌-◌, ◌/◌, ◌^◌, lit≤, ◌<◌, ◌≤◌, length, true, false, sym, subst, arith, ◌∙◌}
-use Rattle.std.proofs.Math.Nat.{pow-le-pow_right}
-use Rattle.p3_matrix.proofs.Rooms.{room_of}
-use Rattle.p3_matrix.specs.BitOrder.{mid_of}
-use Rattle.p3_networks.specs.Twiddles.{AreTwiddlesOfLayers, root_powers}
+use Rattle.p3_networks.proofs.Lemmas.{◌≡◌, ℕ, ◌⊎◌, inl, inr, ◌+◌, ◌-◌, ◌/◌, ◌^◌, lit≤, ◌<◌, ◌≤◌, length, true, false, sym, subst, arith, ◌∙◌, pow-le-pow_right}
+use Rattle.p3_networks.proofs.Lemmas.{room_of, mid_of, AreTwiddlesOfLayers, root_powers}
 use Rattle.p3_networks.proofs.radix_2_dit_parallel.tables.Tables.make.Goals as goal
 
 -- tables that were not there are now

@@ -1,7 +1,4 @@
-use Rattle.std.proofs.Common.{◌+◌, ◌*◌, sym, ap, ◌∙◌}
-use Rattle.p3_networks.proofs.Layers.Sizes.{first_shift}
-use Rattle.p3_networks.proofs.Networks.Slots.{slot_number, slot_of_shifted}
-use Rattle.p3_networks.proofs.Tables.RootPowers.{fewer_roots}
+use Rattle.p3_networks.proofs.Lemmas.{◌+◌, ◌*◌, sym, ap, ◌∙◌, first_shift, slot_number, slot_of_shifted, fewer_roots}
 use Rattle.p3_networks.proofs.radix_2_small_batch.slots.OtherSlotsChunkWork.on_chunk.Goals as goal
 
 pub overflow_add-slot : goal.overflow_add-slot
