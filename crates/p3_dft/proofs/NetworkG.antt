@@ -1,39 +1,22 @@
 -- What the engine of network G does besides the network: tables of powers, rows in bit reversed order that are weighed and spread, and the calls that it
 -- makes of these.
-use Rattle.std.proofs.Common.{◌≡◌, ℕ, zero, suc, ◌+◌, ◌*◌, ◌-◌, ◌%◌, ◌^◌, ◌<◌, ◌≤◌, List, length, get_or, take, refl, sym, ap, ap₂, ◌∙◌}
-use Rattle.std.proofs.Common.{◌/◌, ◌⊎◌, arith, drop, inl, inr, le-add_right, map, pow_pos, rules, subst}
-use Rattle.std.proofs.lemmas.List.{get_or_past, length-map, places}
-use Rattle.std.proofs.lemmas.Nat.{mul-add-lt}
-use Rattle.std.proofs.Math.Nat.{mod-eq_of_lt, mul-le-mul_left, mul-le-mul_right, pow-le-pow_right, two-pow-succ}
-use Rattle.p3_field.specs.Ring.{AreRoots, count, power}
-use Rattle.p3_field.specs.declared.fields.Valued.{Ghosts as FieldMembers}
-use Rattle.p3_field.proofs.Powers.{power_of_one}
-use Rattle.p3_field.proofs.Rings
-use Rattle.p3_matrix.specs.BitOrder.{bit_reversal, rev}
-use Rattle.p3_matrix.specs.Cosets.{AreCoefficients, IsQuotient, IsValues, coset_shift, values_of}
-use Rattle.p3_matrix.specs.Matrix.{Matrix, Same, image, matrix, row_exchange}
-use Rattle.p3_matrix.specs.RowMajor.{HasShapeOf, IsRowMajor, RowMajor, height, row, with_zeros}
+use Rattle.p3_dft.proofs.Names.{◌≡◌, ℕ, zero, suc, ◌+◌, ◌*◌, ◌-◌, ◌%◌, ◌^◌, ◌<◌, ◌≤◌, List, length, get_or, take, refl, sym, ap, ap₂, ◌∙◌, ◌/◌, ◌⊎◌, arith}
+use Rattle.p3_dft.proofs.Names.{drop, inl, inr, le-add_right, map, pow_pos, rules, subst, get_or_past, length-map, places, mul-add-lt, mod-eq_of_lt}
+use Rattle.p3_dft.proofs.Names.{mul-le-mul_left, mul-le-mul_right, pow-le-pow_right, two-pow-succ, AreRoots, count, power, power_of_one, bit_reversal, rev}
+use Rattle.p3_dft.proofs.Names.{AreCoefficients, IsQuotient, IsValues, coset_shift, values_of, Matrix, Same, image, matrix, row_exchange, HasShapeOf}
+use Rattle.p3_dft.proofs.Names.{IsRowMajor, RowMajor, height, row, with_zeros, reversed_back, rev-lt, rev-rev, mapped_same, same_sym, row_within, whole_kept}
+use Rattle.p3_dft.proofs.Names.{RowsDone, part_at, part_size, rows-next, value_at, padded_above, padded_below, padded_high, padded_whole, log_same}
+use Rattle.p3_dft.proofs.Names.{coefficients_same, same_coefficients, quotient_of_products, AreTwiddles, AreTransformedValues, IsExtension, KeepsShape, FitsLde}
+use Rattle.p3_dft.proofs.Names.{HasEntriesOf, IsInterpolation, IsTransform}
 use Rattle.p3_matrix.specs.Writes.{with_elements, with_row}
-use Rattle.p3_matrix.proofs.BitReversal.{reversed_back, rev-lt, rev-rev}
-use Rattle.p3_matrix.proofs.Matrices.{mapped_same, same_sym}
-use Rattle.p3_matrix.proofs.RowMajor.{row_within, whole_kept}
-use Rattle.p3_matrix.proofs.Rows.Overwritten.{RowsDone, part_at, part_size, rows-next, value_at}
-use Rattle.p3_matrix.proofs.Rows.Padding.{padded_above, padded_below, padded_high, padded_whole}
-use Rattle.p3_matrix.proofs.TwoPowers.{log_same}
-use Rattle.p3_matrix.proofs.Polynomials.Cosets.{coefficients_same}
-use Rattle.p3_matrix.proofs.Polynomials.Interpolation.{same_coefficients}
-use Rattle.p3_matrix.proofs.Polynomials.Quotients.{quotient_of_products}
 use Rattle.p3_matrix.proofs.Polynomials.SpreadRows.{SpreadFrom, spread_exchanged, spread_none, spread_others, spread_rows, values_of_spread}
-use Rattle.p3_networks.specs.Twiddles.{AreTwiddles}
-use Rattle.p3_dft.specs.declared.traits.Layout.{Layout}
-use Rattle.p3_dft.specs.declared.traits.Layout.TheVariants.{BitReversed}
-use Rattle.p3_dft.specs.Extensions.{AreTransformedValues, IsExtension, KeepsShape}
-use Rattle.p3_dft.specs.Shapes.{FitsLde}
-use Rattle.p3_dft.specs.Stored.{HasEntriesOf}
-use Rattle.p3_dft.specs.Transforms.{IsInterpolation, IsTransform}
 use Rattle.p3_dft.proofs.BitReversed.Coefficients.{extension_of_coefficients, interpolation_of_coefficients, values_of_answered}
 use Rattle.p3_dft.proofs.Calls.Shapes.{fits_lde_as, output_size, powers_fit}
 use Rattle.p3_dft.proofs.Calls.Stored.{whole_still}
+use Rattle.p3_field.specs.declared.fields.Valued.{Ghosts as FieldMembers}
+use Rattle.p3_field.proofs.Rings
+use Rattle.p3_dft.specs.declared.traits.Layout.{Layout}
+use Rattle.p3_dft.specs.declared.traits.Layout.TheVariants.{BitReversed}
 
 -- ---- shapes
 -- a table of half the powers of a height has no more entries than a matrix of that height

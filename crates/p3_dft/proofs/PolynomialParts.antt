@@ -1,18 +1,10 @@
 -- The values of polynomials on a coset, by parts. A polynomial that is cut into n parts of m coefficients has at x the value of m
 -- coefficients: coefficient q is the value at x ^ m of the polynomial that the parts have in place q. So the values on a coset of s of
 -- order 2 ^ (a + b) come from values on the coset of s ^ 2 ^ b of order 2 ^ a, and then, for each of its points, on one of order 2 ^ b.
-use Rattle.std.proofs.Common.{◌≡◌, ℕ, zero, suc, ◌+◌, ◌*◌, ◌/◌, ◌%◌, ◌^◌, ◌<◌, ◌≤◌, refl, sym, ap, ap₂, ◌∙◌, arith, zero-mul, pow-add, pow_pos}
-use Rattle.std.proofs.Math.Nat.{suc-mul, mod-add-div, mul-le-mul_right}
-use Rattle.std.proofs.lemmas.Nat.{div_below, mod_below}
-use Rattle.p3_field.specs.Ring.{Ring, AreRoots, power}
+use Rattle.p3_dft.proofs.Names.{◌≡◌, ℕ, zero, suc, ◌+◌, ◌*◌, ◌/◌, ◌%◌, ◌^◌, ◌<◌, ◌≤◌, refl, sym, ap, ap₂, ◌∙◌, arith, zero-mul, pow-add, pow_pos, suc-mul}
+use Rattle.p3_dft.proofs.Names.{mod-add-div, mul-le-mul_right, div_below, mod_below, Ring, AreRoots, power, root_all, root_strided, IsValues, point, Matrix}
+use Rattle.p3_dft.proofs.Names.{poly, poly_same, poly_zeros, poly-append, poly-add, poly-times, entry-poly, is_values, IsInterleaved}
 use Rattle.p3_field.proofs.Powers.{power-add, power_of_product, power-mul}
-use Rattle.p3_field.proofs.Roots.{root_all, root_strided}
-use Rattle.p3_matrix.specs.Cosets.{IsValues, point}
-use Rattle.p3_matrix.specs.Matrix.{Matrix}
-use Rattle.p3_matrix.specs.Polynomials.{poly}
-use Rattle.p3_matrix.proofs.Polynomials.ByIndex.{poly_same, poly_zeros, poly-append, poly-add, poly-times}
-use Rattle.p3_matrix.proofs.Polynomials.Cosets.{entry-poly, is_values}
-use Rattle.p3_dft.specs.Parts.{IsInterleaved}
 
 -- each row of `wide` is n rows of c, one after another
 pub record AreWideRows {A : Type 0} (n : ℕ) (c wide : Matrix A) : Type 0 where

@@ -1,31 +1,16 @@
 -- Coefficients whose rows lie in bit reversed order: that the networks give them, and values and extensions from them, with no row put
 -- into natural order.
-use Rattle.std.proofs.Common.{◌≡◌, ℕ, ◌+◌, ◌*◌, ◌≤◌, ◌^◌, ◌++◌, List, length, get_or, take, refl, sym, ap, ap₂, ◌∙◌, subst, arith}
-use Rattle.p3_field.specs.Ring.{AreRoots, power}
-use Rattle.p3_field.specs.declared.fields.Valued.{Ghosts as FieldMembers}
-use Rattle.p3_field.proofs.Roots.{inverse_root}
-use Rattle.p3_matrix.specs.BitOrder.{rev, bit_reversal}
-use Rattle.p3_matrix.specs.Matrix.{Matrix, Same, image, matrix}
-use Rattle.p3_matrix.specs.RowMajor.{RowMajor, IsRowMajor, height}
-use Rattle.p3_matrix.proofs.BitReversal.{reversed_back, reversed_twice}
-use Rattle.p3_matrix.proofs.Matrices.{mapped_same, same_sym}
-use Rattle.p3_matrix.specs.Cosets.{AreCoefficients, IsQuotient, IsValues, coset_shift, point, values_of}
-use Rattle.p3_dft.specs.Extensions.{AreTransformedValues, IsExtension}
-use Rattle.p3_matrix.specs.Polynomials.{poly}
-use Rattle.p3_dft.specs.Shapes.{FitsDft}
-use Rattle.p3_dft.specs.Transforms.{IsExtendedTransform, IsInterpolation}
-use Rattle.p3_networks.specs.Layers.{AreValuesOfRows}
-use Rattle.p3_dft.specs.declared.traits.Layout.{Layout}
-use Rattle.p3_dft.specs.declared.traits.Layout.TheVariants.{BitReversed}
-use Rattle.p3_matrix.proofs.Polynomials.Cosets.{coefficients_same, coset_values, is_subgroup_values, is_values}
-use Rattle.p3_matrix.proofs.Polynomials.Quotients.{shifted_by_one}
-use Rattle.p3_matrix.proofs.Polynomials.Interpolation.{there_is_no_other}
-use Rattle.p3_matrix.proofs.Polynomials.ByIndex.{poly-one}
+use Rattle.p3_dft.proofs.Names.{◌≡◌, ℕ, ◌+◌, ◌*◌, ◌≤◌, ◌^◌, ◌++◌, List, length, get_or, take, refl, sym, ap, ap₂, ◌∙◌, subst, arith, AreRoots, power}
+use Rattle.p3_dft.proofs.Names.{inverse_root, rev, bit_reversal, Matrix, Same, image, matrix, RowMajor, IsRowMajor, height, reversed_back, reversed_twice}
+use Rattle.p3_dft.proofs.Names.{mapped_same, same_sym, AreCoefficients, IsQuotient, IsValues, coset_shift, point, values_of, AreTransformedValues, IsExtension}
+use Rattle.p3_dft.proofs.Names.{poly, FitsDft, IsExtendedTransform, IsInterpolation, AreValuesOfRows, coefficients_same, coset_values, is_subgroup_values}
+use Rattle.p3_dft.proofs.Names.{is_values, shifted_by_one, there_is_no_other, poly-one, written, height_of_parts}
 use Rattle.p3_dft.proofs.BitReversed.Rows.{transform_of_row}
 use Rattle.p3_dft.proofs.Calls.Stored.{at_log}
-use Rattle.p3_matrix.proofs.Rows.Overwritten.{written}
-use Rattle.p3_matrix.proofs.RowMajor.{height_of_parts}
 use Rattle.p3_matrix.proofs.Polynomials.ReversedCoefficients.{coefficients_of_reversed, reversed_row}
+use Rattle.p3_field.specs.declared.fields.Valued.{Ghosts as FieldMembers}
+use Rattle.p3_dft.specs.declared.traits.Layout.{Layout}
+use Rattle.p3_dft.specs.declared.traits.Layout.TheVariants.{BitReversed}
 
 module _ {F : Type 0} (f : FieldMembers F) (generator : ℕ → F) where
   abbrev roots : ℕ → f.Element

@@ -1,20 +1,10 @@
 -- Columns on cosets of their own, by a transform on the subgroup and the powers of each column's shift.
-use Rattle.std.proofs.Common.{◌≡◌, ℕ, zero, suc, ◌^◌, ◌<◌, ◌≤◌, refl, sym, ap, ap₂, ◌∙◌, arith, subst}
-use Rattle.p3_field.specs.Ring.{AreRoots, IsInverse, IsInvertible, Ring, power}
+use Rattle.p3_dft.proofs.Names.{◌≡◌, ℕ, zero, suc, ◌^◌, ◌<◌, ◌≤◌, refl, sym, ap, ap₂, ◌∙◌, arith, subst, AreRoots, IsInverse, IsInvertible, Ring, power}
+use Rattle.p3_dft.proofs.Names.{power-inverse, power-suc, power-zero, alone, AreCoefficients, coset_shift, values_of, Matrix, Same, RowMajor, height}
+use Rattle.p3_dft.proofs.Names.{column_values, coset_values, coset_coefficients, there_is_no_other, log_same, IsInterpolationByColumns, IsTransformByColumns}
+use Rattle.p3_dft.proofs.Names.{column_shift, columns_shifted, FitsDft, IsInterpolation, IsTransform}
 use Rattle.p3_field.specs.declared.fields.Valued.{Ghosts as FieldMembers}
-use Rattle.p3_field.proofs.Powers.{power-inverse, power-suc, power-zero}
 use Rattle.p3_field.proofs.Rings
-use Rattle.p3_matrix.specs.Combinations.{alone}
-use Rattle.p3_matrix.specs.Cosets.{AreCoefficients, coset_shift, values_of}
-use Rattle.p3_matrix.specs.Matrix.{Matrix, Same}
-use Rattle.p3_matrix.specs.RowMajor.{RowMajor, height}
-use Rattle.p3_matrix.proofs.Polynomials.Combinations.{column_values}
-use Rattle.p3_matrix.proofs.Polynomials.Cosets.{coset_values}
-use Rattle.p3_matrix.proofs.Polynomials.Interpolation.{coset_coefficients, there_is_no_other}
-use Rattle.p3_matrix.proofs.TwoPowers.{log_same}
-use Rattle.p3_dft.specs.ColumnCosets.{IsInterpolationByColumns, IsTransformByColumns, column_shift, columns_shifted}
-use Rattle.p3_dft.specs.Shapes.{FitsDft}
-use Rattle.p3_dft.specs.Transforms.{IsInterpolation, IsTransform}
 
 module _ {A : Type 0} (R : Ring A) where
   -- the shift of column 0

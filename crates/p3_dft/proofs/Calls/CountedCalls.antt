@@ -1,17 +1,12 @@
 -- Calls of an engine that shows nothing but how many products it made, by the products of their steps. The steps work on m, and the call was given n, which
 -- equals it.
-use Rattle.std.specs.Prelude.{⊤}
-use Rattle.std.proofs.Common.{ℕ, ◌≡◌, ◌+◌, ◌*◌, ◌^◌, ◌≤◌, Result, Ok, IsErr, IfErr, IsErrAnd, ap, sym, ◌∙◌, arith, le_of_eq, le_trans}
-use Rattle.p3_matrix.specs.declared.error.DftError.{DftError}
-use Rattle.p3_matrix.specs.Room.{IsWithin}
-use Rattle.p3_matrix.specs.RowMajor.{HasShapeOf, RowMajor, height}
-use Rattle.p3_matrix.proofs.Rooms.{if_within_more, room_of}
-use Rattle.p3_matrix.proofs.TwoPowers.{entries_rise}
-use Rattle.p3_dft.specs.Engines.{AfterDft, AfterLde, EngineFacts, plain_facts}
-use Rattle.p3_dft.specs.Extensions.{extension_bound}
+use Rattle.p3_dft.proofs.Names.{⊤, ℕ, ◌≡◌, ◌+◌, ◌*◌, ◌^◌, ◌≤◌, Result, Ok, IsErr, IfErr, IsErrAnd, ap, sym, ◌∙◌, arith, le_of_eq, le_trans, IsWithin}
+use Rattle.p3_dft.proofs.Names.{HasShapeOf, RowMajor, height, if_within_more, room_of, entries_rise, AfterDft, AfterLde, EngineFacts, plain_facts}
+use Rattle.p3_dft.proofs.Names.{extension_bound}
 use Rattle.p3_dft.proofs.Calls.EngineSteps.{after_counting}
 use Rattle.p3_dft.proofs.Calls.Shapes.{fewer_of_same, same_extended}
 use Rattle.p3_dft.proofs.Calls.Stored.{at_log}
+use Rattle.p3_matrix.specs.declared.error.DftError.{DftError}
 
 -- what such an engine promises: only heights of one, and nothing of its tables
 abbrev pub counting : {F : Type 0} → (ℕ → ℕ → ℕ) → EngineFacts ℕ F

@@ -1,13 +1,9 @@
 -- An engine after one call and then another.
-use Rattle.std.specs.Prelude.{⊤}
-use Rattle.std.proofs.Common.{ℕ, ◌≡◌, ◌+◌, ◌*◌, ◌^◌, ◌≤◌, Result, Ok, Err, IsOk, IsErr, IfErr, IsErrAnd, refl, ap, ap₂}
-use Rattle.std.proofs.Common.{◌∙◌, add-one, arith, rules, subst, le-add_right, le_refl, pow_pos, suc-mul, OnOk}
-use Rattle.p3_matrix.specs.declared.error.DftError.{DftError}
-use Rattle.p3_matrix.specs.Room.{IsWithin, IsWithinEither}
-use Rattle.p3_matrix.proofs.Rooms.{either_of, if_first}
-use Rattle.p3_matrix.specs.RowMajor.{HasShapeOf, RowMajor, height}
+use Rattle.p3_dft.proofs.Names.{⊤, ℕ, ◌≡◌, ◌+◌, ◌*◌, ◌^◌, ◌≤◌, Result, Ok, Err, IsOk, IsErr, IfErr, IsErrAnd, refl, ap, ap₂, ◌∙◌, add-one, arith, rules, subst}
+use Rattle.p3_dft.proofs.Names.{le-add_right, le_refl, pow_pos, suc-mul, OnOk, IsWithin, IsWithinEither, either_of, if_first, HasShapeOf, RowMajor, height}
+use Rattle.p3_dft.proofs.Names.{AfterDft, AfterLde, AfterLdeOfCoefficients, AtLog, EngineFacts, HasProductsMore, IsAfter, IsLater, plain_facts}
 use Rattle.p3_dft.proofs.Calls.Shapes.{extended_entries}
-use Rattle.p3_dft.specs.Engines.{AfterDft, AfterLde, AfterLdeOfCoefficients, AtLog, EngineFacts, HasProductsMore, IsAfter, IsLater, plain_facts}
+use Rattle.p3_matrix.specs.declared.error.DftError.{DftError}
 
 -- an error is no answer
 pub no_answer : {A X : Type 0} (r : Result A X) → IsErr r → IsOk r → ⊥

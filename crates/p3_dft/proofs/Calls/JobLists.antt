@@ -1,16 +1,10 @@
 -- Lists of jobs that are answered one after another.
-use Rattle.std.proofs.Common.{◌≡◌, ℕ, ◌+◌, ◌*◌, ◌^◌, ◌≤◌, List, [], ◌∷◌, ◌++◌, length, take, get_or, refl, sym, ap, ◌∙◌}
-use Rattle.std.proofs.Common.{subst, append_assoc, length-append, arith, Result, Ok, Err, OnErr, append-nil}
+use Rattle.p3_dft.proofs.Names.{◌≡◌, ℕ, ◌+◌, ◌*◌, ◌^◌, ◌≤◌, List, [], ◌∷◌, ◌++◌, length, take, get_or, refl, sym, ap, ◌∙◌, subst, append_assoc, length-append}
+use Rattle.p3_dft.proofs.Names.{arith, Result, Ok, Err, OnErr, append-nil, All-rest, sum_by_push, AllZip-long, all_zipped_more, All, AllZip, sum, RowMajor}
+use Rattle.p3_dft.proofs.Names.{EngineFacts, IsLater, AreFirstAnswers, CanRun, IsAnswer, IsCost, IsPromised, IsPreparedFor, NextIsNotPromised}
 use Rattle.std.proofs.Math.Seq.{get_or-append_seam, take-append_seam}
-use Rattle.std.proofs.lemmas.List.Elements.{All-rest}
-use Rattle.std.proofs.lemmas.List.Sums.{sum_by_push}
-use Rattle.std.proofs.lemmas.Slice.Zip.{AllZip-long, all_zipped_more}
-use Rattle.std.specs.List.{All, AllZip, sum}
-use Rattle.p3_field.specs.declared.fields.Valued.{Ghosts as FieldMembers}
-use Rattle.p3_matrix.specs.RowMajor.{RowMajor}
 use Rattle.p3_dft.proofs.Calls.Stored.{at_log}
-use Rattle.p3_dft.specs.Engines.{EngineFacts, IsLater}
-use Rattle.p3_dft.specs.Jobs.{AreFirstAnswers, CanRun, IsAnswer, IsCost, IsPromised, IsPreparedFor, NextIsNotPromised}
+use Rattle.p3_field.specs.declared.fields.Valued.{Ghosts as FieldMembers}
 use Rattle.p3_dft.specs.declared.jobs.Job.{Job}
 use Rattle.p3_dft.specs.declared.jobs.Job.TheVariants.{Dft, CosetDft, Idft, CosetIdft, Lde, CosetLde}
 

@@ -1,21 +1,14 @@
 -- What the call for a job answers, and what it leaves of the engine.
-use Rattle.std.proofs.Common.{◌≡◌, ℕ, ◌^◌, ◌≤◌, inl, inr, List, length, get_or, Result, Ok, Err, IfErr, IfOk, IsOk, IsErr}
-use Rattle.std.proofs.Common.{IsErrAnd, refl, sym, ap, ◌∙◌, subst, arith, le_refl}
-use Rattle.std.proofs.lemmas.Result.{IfErr-at_err, IfOk-at_ok, IfOk-from_err}
-use Rattle.p3_field.specs.declared.fields.Valued.{Ghosts as FieldMembers}
-use Rattle.p3_matrix.specs.declared.error.DftError.{DftError}
-use Rattle.p3_matrix.specs.RowMajor.{RowMajor, height}
-use Rattle.p3_dft.specs.Engines.{AfterDft, AfterLde, AtLog, EngineFacts, IsAfter}
-use Rattle.p3_dft.specs.Extensions.{IsExtension}
-use Rattle.p3_matrix.specs.Room.{IsWithin, IsWithinEither}
-use Rattle.p3_matrix.proofs.Rooms.{either_of, within_more}
-use Rattle.p3_dft.specs.Jobs.{CanRun, IsAnswer, IsCost, IsPreparedFor, IsPromised, IsRun, RanOut, answer_entries}
-use Rattle.p3_dft.specs.Shapes.{FitsDft, FitsLde}
-use Rattle.p3_dft.specs.Transforms.{IsInterpolation, IsTransform}
-use Rattle.p3_dft.specs.declared.jobs.Job.{Job}
-use Rattle.p3_dft.specs.declared.jobs.Job.TheVariants.{Dft, CosetDft, Idft, CosetIdft, Lde, CosetLde}
+use Rattle.p3_dft.proofs.Names.{◌≡◌, ℕ, ◌^◌, ◌≤◌, inl, inr, List, length, get_or, Result, Ok, Err, IfErr, IfOk, IsOk, IsErr, IsErrAnd, refl, sym, ap, ◌∙◌}
+use Rattle.p3_dft.proofs.Names.{subst, arith, le_refl, IfErr-at_err, IfOk-at_ok, IfOk-from_err, RowMajor, height, AfterDft, AfterLde, AtLog, EngineFacts}
+use Rattle.p3_dft.proofs.Names.{IsAfter, IsExtension, IsWithin, IsWithinEither, either_of, within_more, CanRun, IsAnswer, IsCost, IsPreparedFor, IsPromised}
+use Rattle.p3_dft.proofs.Names.{IsRun, RanOut, answer_entries, FitsDft, FitsLde, IsInterpolation, IsTransform}
 use Rattle.p3_dft.proofs.Calls.EngineSteps.{where_ok}
 use Rattle.p3_dft.proofs.Calls.PreparedHeights.{not_ok}
+use Rattle.p3_field.specs.declared.fields.Valued.{Ghosts as FieldMembers}
+use Rattle.p3_matrix.specs.declared.error.DftError.{DftError}
+use Rattle.p3_dft.specs.declared.jobs.Job.{Job}
+use Rattle.p3_dft.specs.declared.jobs.Job.TheVariants.{Dft, CosetDft, Idft, CosetIdft, Lde, CosetLde}
 
 module _ {E F : Type 0} {facts : EngineFacts E F} {bytes : ℕ} {f : FieldMembers F} {generator : ℕ → F} where
   -- a call on 2 ^ k rows that answers a job

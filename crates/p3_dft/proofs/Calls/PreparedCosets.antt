@@ -1,10 +1,7 @@
 -- Which cosets are prepared where tables were added.
-use Rattle.std.specs.Prelude.{⊤}
-use Rattle.std.proofs.Common.{◌≡◌, ◌⊎◌, inl, inr, ℕ, ◌+◌, ◌≤◌, List, [], ◌∷◌, ◌++◌, sym, ap, subst, length, length-append, arith}
-use Rattle.std.proofs.Math.ListN.{get_or-append}
+use Rattle.p3_dft.proofs.Names.{⊤, ◌≡◌, ◌⊎◌, inl, inr, ℕ, ◌+◌, ◌≤◌, List, [], ◌∷◌, ◌++◌, sym, ap, subst, length, length-append, arith, get_or-append, Coset}
+use Rattle.p3_dft.proofs.Names.{HasCoset, IsCosetOf, CosetEngineState, EngineFacts, IsCosetPrepared, IsLater, IsPrepared, plain_facts}
 use Rattle.p3_field.specs.declared.fields.Valued.{Ghosts as FieldMembers}
-use Rattle.p3_matrix.specs.Cosets.{Coset, HasCoset, IsCosetOf}
-use Rattle.p3_dft.specs.Engines.{CosetEngineState, EngineFacts, IsCosetPrepared, IsLater, IsPrepared, plain_facts}
 
 -- an engine with powers of the roots up to a height, so many products, and tables of cosets
 abbrev pub tabled : {F : Type 0} → ℕ → ℕ → List (Coset F) → CosetEngineState F

@@ -1,14 +1,10 @@
 -- The steps of an engine that shows the largest height whose twiddles are there.
-use Rattle.std.specs.Prelude.{⊤, max}
-use Rattle.std.proofs.Common.{◌≡◌, ℕ, ◌+◌, ◌*◌, ◌≤◌, ◌^◌, Result, Ok, Err, IfErr, IsErr, IsErrAnd, IsOk, OnErr, OnOk, ◌⊎◌, refl, ap}
-use Rattle.std.proofs.Common.{subst, arith, le_refl, rules}
-use Rattle.p3_matrix.specs.declared.error.DftError.{DftError}
-use Rattle.p3_matrix.specs.Room.{IsWithin}
-use Rattle.p3_matrix.specs.RowMajor.{RowMajor, height}
-use Rattle.p3_matrix.proofs.Rooms.{first_of, if_first}
-use Rattle.p3_dft.specs.Engines.{AfterDft, AtLog, EngineFacts, HasProductsMore, IsAfter, IsLater, IsPrepared, EngineState}
+use Rattle.p3_dft.proofs.Names.{⊤, max, ◌≡◌, ℕ, ◌+◌, ◌*◌, ◌≤◌, ◌^◌, Result, Ok, Err, IfErr, IsErr, IsErrAnd, IsOk, OnErr, OnOk, ◌⊎◌, refl, ap, subst, arith}
+use Rattle.p3_dft.proofs.Names.{le_refl, rules, IsWithin, RowMajor, height, first_of, if_first, AfterDft, AtLog, EngineFacts, HasProductsMore, IsAfter, IsLater}
+use Rattle.p3_dft.proofs.Names.{IsPrepared, EngineState}
 use Rattle.p3_dft.proofs.Calls.EngineSteps.{after_error}
 use Rattle.p3_dft.proofs.Calls.Shapes.{extended_table_fits}
+use Rattle.p3_matrix.specs.declared.error.DftError.{DftError}
 
 -- an engine with twiddles of all heights up to one, and so many products
 abbrev pub up_to : ℕ → ℕ → EngineState

@@ -1,11 +1,6 @@
 -- Matrices of a power of two of rows, what is said at the logarithm of their height, and what work in place leaves of them.
-use Rattle.std.proofs.Common.{◌≡◌, ℕ, ◌+◌, ◌^◌, ◌<◌, ◌++◌, List, length, take, drop, refl, sym, ap, subst, ◌∙◌}
-use Rattle.p3_matrix.specs.RowMajor.{HasShapeOf, IsRowMajor, RowMajor, height, with_zeros}
-use Rattle.p3_matrix.proofs.RowMajor.{whole_kept, written_shape, written_size}
-use Rattle.p3_matrix.proofs.Rows.Padding.{padded_shape, padded_whole}
-use Rattle.p3_matrix.proofs.TwoPowers.{log_same}
-use Rattle.p3_dft.specs.Engines.{AtLog}
-use Rattle.p3_dft.specs.Stored.{HasEntriesOf, HasTwoPowerRows}
+use Rattle.p3_dft.proofs.Names.{◌≡◌, ℕ, ◌+◌, ◌^◌, ◌<◌, ◌++◌, List, length, take, drop, refl, sym, ap, subst, ◌∙◌, HasShapeOf, IsRowMajor, RowMajor, height}
+use Rattle.p3_dft.proofs.Names.{with_zeros, whole_kept, written_shape, written_size, padded_shape, padded_whole, log_same, AtLog, HasEntriesOf, HasTwoPowerRows}
 
 -- what is said at a height's logarithm, shown at the one that a program found
 pub at_log : (P : ℕ → Type 0) (height log : ℕ) → height ≡ 2 ^ log → P log → AtLog height P

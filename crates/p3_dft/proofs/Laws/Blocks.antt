@@ -1,16 +1,9 @@
 -- What an extension with blocks says of the way in which it stopped, and what a consumer holds that copied all blocks.
-use Rattle.std.proofs.Common.{◌≡◌, ℕ, ◌*◌, ◌^◌, List, length, Result, Ok, sym, ◌∙◌}
-use Rattle.std.specs.Prelude.{⊤}
-use Rattle.p3_field.specs.declared.fields.Valued.{Ghosts as FieldMembers}
-use Rattle.p3_matrix.specs.BitOrder.{reversed_rows}
-use Rattle.p3_matrix.specs.Blocks.{IsPublished}
-use Rattle.p3_matrix.specs.Consumers.{IsCopied}
-use Rattle.p3_matrix.specs.RowMajor.{IsRowMajor, RowMajor, height}
-use Rattle.p3_matrix.proofs.Consumers.{all_copied}
-use Rattle.p3_dft.specs.Extensions.{IsExtension}
-use Rattle.p3_dft.specs.Shapes.{FitsLde}
+use Rattle.p3_dft.proofs.Names.{◌≡◌, ℕ, ◌*◌, ◌^◌, List, length, Result, Ok, sym, ◌∙◌, ⊤, reversed_rows, IsPublished, IsCopied, IsRowMajor, RowMajor, height}
+use Rattle.p3_dft.proofs.Names.{all_copied, IsExtension, FitsLde}
 use Rattle.p3_dft.proofs.Calls.PublishedExtensions.{physical_entries}
 use Rattle.p3_dft.specs.Blocks.{OnRefused, OnOutOfMemory}
+use Rattle.p3_field.specs.declared.fields.Valued.{Ghosts as FieldMembers}
 use Rattle.p3_dft.specs.declared.blocks.BlocksStopped.{BlocksStopped}
 use Rattle.p3_dft.specs.declared.blocks.BlocksStopped.TheVariants.{Refused, OutOfMemory}
 use Rattle.p3_dft.specs.declared.blocks.Unpublished.{Unpublished}

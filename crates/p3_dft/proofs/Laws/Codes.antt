@@ -1,24 +1,12 @@
 -- Laws of Reed-Solomon codes that a user cites: which values have low degree, which matrices are codewords, and how far two codewords lie apart.
-use Rattle.std.proofs.Common.{◌≡◌, ◌≢◌, ◌↔◌, ℕ, zero, suc, ◌+◌, ◌-◌, ◌^◌, ◌<◌, ◌≤◌, ◌⊎◌, inl, inr, ⊎_elim, Bool, true}
-use Rattle.std.proofs.Common.{false, IsTrue, cond, le-ltb, refl, sym, ap, ◌∙◌, subst, arith, below_more}
-use Rattle.std.proofs.Math.Nat.{pow-le-pow_right}
-use Rattle.std.proofs.lemmas.Bool.{cases_lt, true≢false}
-use Rattle.p3_field.specs.Ring.{AreRoots}
-use Rattle.p3_field.specs.declared.fields.Valued.{Ghosts as FieldMembers}
-use Rattle.p3_matrix.specs.Matrix.{Matrix, Same}
-use Rattle.p3_matrix.specs.RowMajor.{RowMajor, height}
-use Rattle.p3_matrix.specs.Cosets.{IsValues, values_of}
+use Rattle.p3_dft.proofs.Names.{◌≡◌, ◌≢◌, ◌↔◌, ℕ, zero, suc, ◌+◌, ◌-◌, ◌^◌, ◌<◌, ◌≤◌, ◌⊎◌, inl, inr, ⊎_elim, Bool, true, false, IsTrue, cond, le-ltb, refl, sym}
+use Rattle.p3_dft.proofs.Names.{ap, ◌∙◌, subst, arith, below_more, pow-le-pow_right, cases_lt, true≢false, AreRoots, Matrix, Same, RowMajor, height, IsValues}
+use Rattle.p3_dft.proofs.Names.{values_of, lengthened, same_sym, lengthened_values, padded_values, IsExtension, IsInterpolation, one_word}
 use Rattle.p3_matrix.proofs.Polynomials.Interpolation.{interpolated, there_is_one}
-use Rattle.p3_matrix.specs.Combinations.{lengthened}
-use Rattle.p3_matrix.proofs.Matrices.{same_sym}
-use Rattle.p3_matrix.proofs.Polynomials.Combinations.{lengthened_values}
-use Rattle.p3_matrix.proofs.Polynomials.Cosets.{padded_values}
 use Rattle.p3_dft.specs.Codes.{Code, HasDegreeBelow, IsCode, IsCodeword}
 use Rattle.p3_matrix.specs.RowNumbers.{AgreeInRows, DifferInRows}
-use Rattle.p3_dft.specs.Extensions.{IsExtension}
-use Rattle.p3_dft.specs.Transforms.{IsInterpolation}
-use Rattle.p3_matrix.proofs.Polynomials.Distance.{one_word}
 use Rattle.p3_matrix.proofs.Rows.Numbers.{fewer, split, Split}
+use Rattle.p3_field.specs.declared.fields.Valued.{Ghosts as FieldMembers}
 
 -- a message has at most as many rows as a word
 message_within : (k a : ℕ) → 2 ^ k ≤ 2 ^ (k + a)

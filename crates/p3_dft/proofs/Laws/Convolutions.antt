@@ -1,19 +1,11 @@
 -- Products of polynomials by transforms: zeros behind a vector change no value, and what has the values of a product is the convolution.
-use Rattle.std.proofs.Common.{◌≡◌, ℕ, zero, suc, ◌+◌, ◌*◌, ◌/◌, ◌^◌, ◌<◌, ◌≤◌, List, [], ◌∷◌, ◌++◌, length, get_or, map}
-use Rattle.std.proofs.Common.{replicate, refl, sym, ap, ap₂, ◌∙◌, arith, ◌⊎◌, inl, inr}
-use Rattle.std.proofs.lemmas.Bool.{cases_lt}
-use Rattle.std.proofs.lemmas.List.{get_or_past, length-append, length-map, length-replicate}
-use Rattle.p3_field.specs.Ring.{Ring}
+use Rattle.p3_dft.proofs.Names.{◌≡◌, ℕ, zero, suc, ◌+◌, ◌*◌, ◌/◌, ◌^◌, ◌<◌, ◌≤◌, List, [], ◌∷◌, ◌++◌, length, get_or, map, replicate, refl, sym, ap, ap₂, ◌∙◌}
+use Rattle.p3_dft.proofs.Names.{arith, ◌⊎◌, inl, inr, cases_lt, get_or_past, length-append, length-map, length-replicate, Ring, Matrix, Same, point, IsValues}
+use Rattle.p3_dft.proofs.Names.{values_of, one_column, convolution, value, IsInterpolation, IsTransform, is_values}
+use Rattle.p3_dft.proofs.Laws.TwoCalls.{transform_of_vector}
+use Rattle.p3_matrix.proofs.Polynomials.Convolutions.{convolution_past, product_by_index}
 use Rattle.p3_field.specs.declared.fields.Valued.{Ghosts as FieldMembers}
 use Rattle.p3_field.proofs.Rings
-use Rattle.p3_matrix.specs.Matrix.{Matrix, Same}
-use Rattle.p3_matrix.specs.Cosets.{point, IsValues, values_of}
-use Rattle.p3_dft.specs.Engines.{one_column}
-use Rattle.p3_matrix.specs.Polynomials.{convolution, value}
-use Rattle.p3_dft.specs.Transforms.{IsInterpolation, IsTransform}
-use Rattle.p3_dft.proofs.Laws.TwoCalls.{transform_of_vector}
-use Rattle.p3_matrix.proofs.Polynomials.Cosets.{is_values}
-use Rattle.p3_matrix.proofs.Polynomials.Convolutions.{convolution_past, product_by_index}
 
 -- zeros behind the coefficients change no value
 value_with_zeros : {T A : Type 0} (R : Ring A) (v : T → A) (z : T) → v z ≡ R.zero → (xs : List T) (m : ℕ) (x : A)

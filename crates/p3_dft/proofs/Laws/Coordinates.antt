@@ -1,27 +1,13 @@
 -- Matrices over a vector space: a field is its own space of dimension one, and each coordinate stands alone.
-use Rattle.std.proofs.Common.{◌≡◌, ℕ, zero, suc, ◌+◌, ◌*◌, ◌/◌, ◌^◌, ◌<◌, ◌≤◌, ◌++◌, List, [], ◌∷◌, length, get_or, map}
-use Rattle.std.proofs.Common.{refl, sym, ap, ap₂, ◌∙◌, subst, arith, flat_map, add-mul, add_assoc, div-mul-le_self}
-use Rattle.std.proofs.Common.{mul-div_cancel, mul-le-mul_right, mul-one, mul_assoc}
-use Rattle.std.proofs.Math.ListN.{get_or-append}
-use Rattle.std.proofs.lemmas.List.{get_or-append-add, length-map}
-use Rattle.std.proofs.lemmas.List.Concat.{flat_map-cons}
-use Rattle.p3_field.specs.Ring.{AreRoots, IsInvertible}
+use Rattle.p3_dft.proofs.Names.{◌≡◌, ℕ, zero, suc, ◌+◌, ◌*◌, ◌/◌, ◌^◌, ◌<◌, ◌≤◌, ◌++◌, List, [], ◌∷◌, length, get_or, map, refl, sym, ap, ap₂, ◌∙◌, subst}
+use Rattle.p3_dft.proofs.Names.{arith, flat_map, add-mul, add_assoc, div-mul-le_self, mul-div_cancel, mul-le-mul_right, mul-one, mul_assoc, get_or-append}
+use Rattle.p3_dft.proofs.Names.{get_or-append-add, length-map, flat_map-cons, AreRoots, IsInvertible, Matrix, Same, RowMajor, height, same_sym, AreCoefficients}
+use Rattle.p3_dft.proofs.Names.{IsValues, values_of, coefficients_same, values_same, there_is_no_other, chosen, coordinate, flat, IsExtension, FitsDft}
+use Rattle.p3_dft.proofs.Names.{IsInterpolation, IsTransform, chosen_values}
+use Rattle.p3_dft.proofs.Calls.Coordinates.{height-flat}
+use Rattle.p3_dft.proofs.Laws.TwoCalls.{exponent_within}
 use Rattle.p3_field.specs.declared.algebra.BasedVectorSpace.{Ghosts as SpaceMembers}
 use Rattle.p3_field.specs.declared.fields.Valued.{Ghosts as FieldMembers}
-use Rattle.p3_matrix.specs.Matrix.{Matrix, Same}
-use Rattle.p3_matrix.specs.RowMajor.{RowMajor, height}
-use Rattle.p3_matrix.proofs.Matrices.{same_sym}
-use Rattle.p3_matrix.specs.Cosets.{AreCoefficients, IsValues, values_of}
-use Rattle.p3_matrix.proofs.Polynomials.Cosets.{coefficients_same, values_same}
-use Rattle.p3_matrix.proofs.Polynomials.Interpolation.{there_is_no_other}
-use Rattle.p3_matrix.specs.Combinations.{chosen}
-use Rattle.p3_dft.specs.Coordinates.{coordinate, flat}
-use Rattle.p3_dft.specs.Extensions.{IsExtension}
-use Rattle.p3_dft.specs.Shapes.{FitsDft}
-use Rattle.p3_dft.specs.Transforms.{IsInterpolation, IsTransform}
-use Rattle.p3_dft.proofs.Calls.Coordinates.{height-flat}
-use Rattle.p3_matrix.proofs.Polynomials.Combinations.{chosen_values}
-use Rattle.p3_dft.proofs.Laws.TwoCalls.{exponent_within}
 
 -- ---- dimension one
 -- a field as a space over itself

@@ -1,14 +1,9 @@
 -- `==` of matrices: it is told where the values are equal, and only there.
-use Rattle.std.proofs.Common.{◌≡◌, ◌↔◌, ℕ, zero, suc, ◌+◌, ◌*◌, ◌/◌, ◌%◌, ◌<◌, ◌==◌, ◌&&◌, Bool, IsTrue, true, false}
-use Rattle.std.proofs.Common.{List, [], ◌∷◌, length, get_or, refl, sym, ap, ap₂, ◌∙◌, arith, eq-eqb, eqb-true, mod-lt}
-use Rattle.std.proofs.Common.{true≢false}
-use Rattle.std.proofs.Math.Nat.{div-add-mod, div-lt_iff_lt-mul, mul_comm}
-use Rattle.std.specs.Cmp.Lexicographic.{pointwise}
+use Rattle.p3_dft.proofs.Names.{◌≡◌, ◌↔◌, ℕ, zero, suc, ◌+◌, ◌*◌, ◌/◌, ◌%◌, ◌<◌, ◌==◌, ◌&&◌, Bool, IsTrue, true, false, List, [], ◌∷◌, length, get_or, refl}
+use Rattle.p3_dft.proofs.Names.{sym, ap, ap₂, ◌∙◌, arith, eq-eqb, eqb-true, mod-lt, true≢false, div-add-mod, div-lt_iff_lt-mul, mul_comm, pointwise, Same}
+use Rattle.p3_dft.proofs.Names.{RowMajor, IsRowMajor, height, values_of}
 use Rattle.std.specs.Ordering.{eq_of_both, on}
 use Rattle.p3_field.specs.declared.fields.Valued.{Ghosts as FieldMembers}
-use Rattle.p3_matrix.specs.Matrix.{Same}
-use Rattle.p3_matrix.specs.RowMajor.{RowMajor, IsRowMajor, height}
-use Rattle.p3_matrix.specs.Cosets.{values_of}
 
 both : (s t : Bool) → (s && t) ≡ true → (s ≡ true) × (t ≡ true)
 both true t h = (refl, h)

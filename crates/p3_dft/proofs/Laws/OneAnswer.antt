@@ -1,18 +1,9 @@
 -- A job that can be run has one answer.
-use Rattle.std.proofs.Common.{ℕ, ◌+◌, arith}
-use Rattle.p3_field.specs.Ring.{AreRoots}
+use Rattle.p3_dft.proofs.Names.{ℕ, ◌+◌, arith, AreRoots, Same, RowMajor, height, IsExtension, CanRun, IsAnswer, FitsDft, FitsLde, IsInterpolation, IsTransform}
+use Rattle.p3_dft.proofs.Names.{values_of, coefficients_same, values_unique, there_is_no_other}
 use Rattle.p3_field.specs.declared.fields.Valued.{Ghosts as FieldMembers}
-use Rattle.p3_matrix.specs.Matrix.{Same}
-use Rattle.p3_matrix.specs.RowMajor.{RowMajor, height}
-use Rattle.p3_dft.specs.Extensions.{IsExtension}
-use Rattle.p3_dft.specs.Jobs.{CanRun, IsAnswer}
-use Rattle.p3_dft.specs.Shapes.{FitsDft, FitsLde}
-use Rattle.p3_dft.specs.Transforms.{IsInterpolation, IsTransform}
-use Rattle.p3_matrix.specs.Cosets.{values_of}
 use Rattle.p3_dft.specs.declared.jobs.Job.{Job}
 use Rattle.p3_dft.specs.declared.jobs.Job.TheVariants.{Dft, CosetDft, Idft, CosetIdft, Lde, CosetLde}
-use Rattle.p3_matrix.proofs.Polynomials.Cosets.{coefficients_same, values_unique}
-use Rattle.p3_matrix.proofs.Polynomials.Interpolation.{there_is_no_other}
 
 module _ {F : Type 0} (f : FieldMembers F) (generator : ℕ → F) (bits : ℕ) (are_roots : AreRoots f.ring bits (λ n. f.value (generator n))) where
   abbrev roots : ℕ → f.Element

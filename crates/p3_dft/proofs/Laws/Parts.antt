@@ -1,26 +1,15 @@
 -- Transforms by parts. Of 2 ^ (a + b) rows, 2 ^ b in each wide row, the wide rows are transformed on the coset of s ^ 2 ^ b; then each
 -- alone, as 2 ^ b rows, on the coset of its point. What is said of one part says nothing of another, so they may be made in any order.
-use Rattle.std.proofs.Common.{◌≡◌, ℕ, ◌+◌, ◌*◌, ◌/◌, ◌%◌, ◌^◌, ◌<◌, ◌≤◌, length, get_or, refl, sym, ap, ap₂, ◌∙◌, subst, arith, rules, pow-add, pow_pos}
-use Rattle.std.proofs.Math.Nat.{mul-div_cancel, mul-le-mul_right, div-div-eq-div-mul, div-mul-le_self, mul-div_cancel_left}
-use Rattle.std.proofs.lemmas.List.{places}
+use Rattle.p3_dft.proofs.Names.{◌≡◌, ℕ, ◌+◌, ◌*◌, ◌/◌, ◌%◌, ◌^◌, ◌<◌, ◌≤◌, length, get_or, refl, sym, ap, ap₂, ◌∙◌, subst, arith, rules, pow-add, pow_pos}
+use Rattle.p3_dft.proofs.Names.{mul-div_cancel, mul-le-mul_right, div-mul-le_self, places, AreRoots, IsInvertible, power, power_of_one, bit_reversal, rev}
+use Rattle.p3_dft.proofs.Names.{reversed_rows, AreCoefficients, IsValues, point, values_of, Matrix, Same, IsRowMajor, RowMajor, height, row, rev-block, rev-lt}
+use Rattle.p3_dft.proofs.Names.{there_is_no_other, reversed_entry, reversed_same, log_same, IsExtension, IsInterleaved, row_as_matrix, wide_rows, FitsDft}
+use Rattle.p3_dft.proofs.Names.{FitsLde, IsInterpolation, IsTransform}
+use Rattle.std.proofs.Math.Nat.{div-div-eq-div-mul, mul-div_cancel_left}
 use Rattle.std.proofs.lemmas.Nat.{div-mul-add, mod-mul-add}
-use Rattle.p3_field.specs.Ring.{AreRoots, IsInvertible, power}
-use Rattle.p3_field.specs.declared.fields.Valued.{Ghosts as FieldMembers}
-use Rattle.p3_field.proofs.Powers.{power_of_one}
-use Rattle.p3_matrix.specs.BitOrder.{bit_reversal, rev, reversed_rows}
-use Rattle.p3_matrix.specs.Cosets.{AreCoefficients, IsValues, point, values_of}
-use Rattle.p3_matrix.specs.Matrix.{Matrix, Same}
-use Rattle.p3_matrix.specs.RowMajor.{IsRowMajor, RowMajor, height, row}
-use Rattle.p3_matrix.proofs.BitReversal.{rev-block, rev-lt}
-use Rattle.p3_matrix.proofs.Polynomials.Interpolation.{there_is_no_other}
-use Rattle.p3_matrix.proofs.ReversedRows.{reversed_entry, reversed_same}
-use Rattle.p3_matrix.proofs.TwoPowers.{log_same}
-use Rattle.p3_dft.specs.Extensions.{IsExtension}
-use Rattle.p3_dft.specs.Parts.{IsInterleaved, row_as_matrix, wide_rows}
-use Rattle.p3_dft.specs.Shapes.{FitsDft, FitsLde}
-use Rattle.p3_dft.specs.Transforms.{IsInterpolation, IsTransform}
 use Rattle.p3_dft.proofs.Laws.TwoCalls.{exponent_within}
 use Rattle.p3_dft.proofs.PolynomialParts.{AreRowsOf, AreWideRows, values_by_parts}
+use Rattle.p3_field.specs.declared.fields.Valued.{Ghosts as FieldMembers}
 
 module _ {F : Type 0} (f : FieldMembers F) where
   abbrev values : RowMajor F → Matrix f.Element

@@ -1,16 +1,11 @@
 -- Laws of points that a user cites: what has an inverse, how the points of a coset of two-power order lie to each other, and that
 -- their squares are the points of the coset of the squared shift with half as many. A law that says of what a call answered that
 -- it has an inverse takes the equation that the call's clause gives.
-use Rattle.std.proofs.Common.{◌≡◌, ◌≢◌, ℕ, suc, ◌+◌, ◌*◌, ◌^◌, ◌<◌, ◌≤◌, [], ◌∷◌, refl, sym, ap, ap₂, ◌∙◌, arith}
-use Rattle.p3_field.specs.Ring.{Ring, two, power, AreRoots, IsInverse, IsInvertible}
-use Rattle.p3_field.proofs.Rings
+use Rattle.p3_dft.proofs.Names.{◌≡◌, ◌≢◌, ℕ, suc, ◌+◌, ◌*◌, ◌^◌, ◌<◌, ◌≤◌, [], ◌∷◌, refl, sym, ap, ap₂, ◌∙◌, arith, Ring, two, power, AreRoots, IsInverse}
+use Rattle.p3_dft.proofs.Names.{IsInvertible, power-inverse, power-one, inverse_root, inverse_undoes, root_across, root_squared, root_strided, point, point-mul}
+use Rattle.p3_dft.proofs.Names.{points_apart, log_same}
 use Rattle.p3_field.proofs.RingSolver.{solve, va, vb, vc, vd, ◌⊠◌, ⊝}
-use Rattle.p3_field.proofs.Powers.{power-inverse, power-one}
-use Rattle.p3_field.proofs.Roots.{inverse_root, inverse_undoes, root_across, root_squared, root_strided}
-use Rattle.p3_matrix.specs.Cosets.{point}
-use Rattle.p3_matrix.proofs.Polynomials.Cosets.{point-mul}
-use Rattle.p3_matrix.proofs.Polynomials.Distance.{points_apart}
-use Rattle.p3_matrix.proofs.TwoPowers.{log_same}
+use Rattle.p3_field.proofs.Rings
 
 -- the logarithm of a height is one number
 pub one_logarithm : (k l height : ℕ) → height ≡ 2 ^ k → height ≡ 2 ^ l → k ≡ l

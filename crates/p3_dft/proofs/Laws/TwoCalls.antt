@@ -1,34 +1,17 @@
 -- What two calls have to do with each other: laws that a user cites, in the words of the clauses.
 -- `m` is what a call is given; `y` and `z` are values, `c` and `d` coefficients, `out` an extension. A law that takes the roots'
 -- law names it `are_roots`; it is `roots_law` of the field.
-use Rattle.std.proofs.Common.{◌≡◌, ℕ, suc, ◌+◌, ◌*◌, ◌/◌, ◌^◌, ◌<◌, ◌≤◌, cond, le-ltb, lt-ltb, List, [], ◌∷◌, length}
-use Rattle.std.proofs.Common.{get_or, map, sym, ap, ◌∙◌, subst, arith, pow-add, pow_pos, le-mul_of_pos_right}
-use Rattle.std.proofs.Common.{mul-le-mul_right}
-use Rattle.std.specs.List.{All, AllZip, range_with_len}
-use Rattle.std.proofs.Math.ListN.{get_or-map}
-use Rattle.std.proofs.lemmas.List.{ext_get_or, length-map}
+use Rattle.p3_dft.proofs.Names.{◌≡◌, ℕ, suc, ◌+◌, ◌*◌, ◌/◌, ◌^◌, ◌<◌, ◌≤◌, cond, le-ltb, lt-ltb, List, [], ◌∷◌, length, get_or, map, sym, ap, ◌∙◌, subst, arith}
+use Rattle.p3_dft.proofs.Names.{pow-add, pow_pos, le-mul_of_pos_right, mul-le-mul_right, All, AllZip, range_with_len, get_or-map, ext_get_or, length-map}
+use Rattle.p3_dft.proofs.Names.{AreRoots, root_strided, RowMajor, height, Matrix, Same, column, same_sym, log_same, point, AreCoefficients, IsValues}
+use Rattle.p3_dft.proofs.Names.{coset_shift, values_of, one_column, IsExtension, CanRun, IsAnswer, value, FitsDft, FitsLde, IsInterpolation, IsTransform, alone}
+use Rattle.p3_dft.proofs.Names.{combination, lengthened, column_values, combination_values, lengthened_values, values_of_shifted, coefficients_same}
+use Rattle.p3_dft.proofs.Names.{point_of_one, shifted_values, values_same, values_unique, coefficients_of_same, there_is_no_other}
 use Rattle.std.proofs.lemmas.List.FromFn.{length-map-range_with_len, get_or-map-range_with_len}
-use Rattle.p3_field.specs.Ring.{AreRoots}
-use Rattle.p3_field.specs.declared.fields.Valued.{Ghosts as FieldMembers}
-use Rattle.p3_field.proofs.Roots.{root_strided}
-use Rattle.p3_matrix.specs.RowMajor.{RowMajor, height}
-use Rattle.p3_matrix.specs.Matrix.{Matrix, Same, column}
-use Rattle.p3_matrix.proofs.Matrices.{same_sym}
-use Rattle.p3_matrix.proofs.TwoPowers.{log_same}
-use Rattle.p3_matrix.specs.Cosets.{point, AreCoefficients, IsValues, coset_shift, values_of}
-use Rattle.p3_dft.specs.Engines.{one_column}
-use Rattle.p3_dft.specs.Extensions.{IsExtension}
-use Rattle.p3_dft.specs.Jobs.{CanRun, IsAnswer}
-use Rattle.p3_matrix.specs.Polynomials.{value}
-use Rattle.p3_dft.specs.Shapes.{FitsDft, FitsLde}
-use Rattle.p3_dft.specs.Transforms.{IsInterpolation, IsTransform}
-use Rattle.p3_dft.specs.declared.jobs.Job.{Job}
-use Rattle.p3_matrix.specs.Combinations.{alone, combination, lengthened}
-use Rattle.p3_matrix.proofs.Polynomials.Combinations.{column_values, combination_values, lengthened_values, values_of_shifted}
-use Rattle.p3_matrix.proofs.Polynomials.Cosets.{coefficients_same, point_of_one, shifted_values, values_same, values_unique}
-use Rattle.p3_matrix.proofs.Polynomials.Interpolation.{coefficients_of_same, there_is_no_other}
 use Rattle.p3_dft.proofs.Laws.OneAnswer.{one_answer}
 use Rattle.p3_dft.proofs.Calls.Shapes.{fits_dft_as, input_fits, output_fits}
+use Rattle.p3_field.specs.declared.fields.Valued.{Ghosts as FieldMembers}
+use Rattle.p3_dft.specs.declared.jobs.Job.{Job}
 
 -- ---- shapes
 -- the exponent of a fitting height is within the two-adicity

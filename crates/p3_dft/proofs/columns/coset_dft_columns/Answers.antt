@@ -1,8 +1,4 @@
-use Rattle.std.proofs.Common.{sym, subst}
-use Rattle.p3_matrix.specs.RowMajor.{RowMajor}
-use Rattle.p3_dft.specs.ColumnCosets.{column_shift}
-use Rattle.p3_dft.specs.Transforms.{IsTransform}
-use Rattle.p3_dft.proofs.Calls.ColumnCosets.{transform_by_columns}
+use Rattle.p3_dft.proofs.Lemmas.{sym, subst, RowMajor, column_shift, IsTransform, transform_by_columns}
 use Rattle.p3_dft.proofs.columns.coset_dft_columns.Goals as goal
 
 pub returns-clause-values : goal.returns-clause-values

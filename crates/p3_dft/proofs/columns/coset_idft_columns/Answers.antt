@@ -1,6 +1,4 @@
-use Rattle.std.proofs.Common.{ℕ, ◌<◌, subst}
-use Rattle.p3_field.specs.Ring.{IsInvertible}
-use Rattle.p3_dft.specs.ColumnCosets.{column_shift}
+use Rattle.p3_dft.proofs.Lemmas.{ℕ, ◌<◌, subst, IsInvertible, column_shift}
 use Rattle.p3_dft.proofs.Calls.ColumnCosets.{column_inverse, first_column_shift, interpolation_by_columns}
 use Rattle.p3_dft.proofs.columns.coset_idft_columns.Goals as goal
 

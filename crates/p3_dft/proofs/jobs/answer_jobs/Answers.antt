@@ -1,19 +1,9 @@
-use Rattle.std.proofs.Common.{ℕ, vec_capacity, refl, ap, ◌≡◌, ◌+◌, ◌<◌, ◌≤◌, le_trans, ◌++◌, List, [], ◌∷◌, length}
-use Rattle.std.proofs.Common.{take, subst, sym, ◌∙◌, arith, inr, inl, le-add_left}
-use Rattle.std.proofs.lemmas.List.{nil_from_length}
-use Rattle.std.proofs.lemmas.List.Elements.{All-nil, All-push, All-rest, All-take, All-weaker}
-use Rattle.std.proofs.lemmas.Slice.Zip.{all_zipped_more}
-use Rattle.std.proofs.lemmas.Result.{IfOk-from_err}
-use Rattle.std.specs.List.{All, AllZip}
-use Rattle.std.specs.Vec.Iter.{into_iter_items}
-use Rattle.p3_matrix.specs.RowMajor.{RowMajor}
-use Rattle.p3_dft.specs.Jobs.{AreFirstAnswers, CanRun, HasMade, IsAnswer, IsPreparedFor}
+use Rattle.p3_dft.proofs.Lemmas.{ℕ, vec_capacity, refl, ap, ◌≡◌, ◌+◌, ◌<◌, ◌≤◌, le_trans, ◌++◌, List, [], ◌∷◌, length, take, subst, sym, ◌∙◌, arith, inr, inl}
+use Rattle.p3_dft.proofs.Lemmas.{le-add_left, nil_from_length, All-nil, All-push, All-rest, All-take, All-weaker, all_zipped_more, IfOk-from_err, All, AllZip}
+use Rattle.p3_dft.proofs.Lemmas.{into_iter_items, RowMajor, AreFirstAnswers, CanRun, HasMade, IsAnswer, IsPreparedFor, later_same, later_still, costs_more}
+use Rattle.p3_dft.proofs.Lemmas.{costs_none, costs_rest, first_answers, next_is, next_not_promised, next_of_all, of_all, on_any_error, ready_later, split_more}
+use Rattle.p3_dft.proofs.Lemmas.{taken, taken_and_next, not_ok}
 use Rattle.p3_dft.proofs.Calls.JobRuns.{told_of_job, told_of_list}
-use Rattle.p3_dft.proofs.Calls.EngineSteps.{later_same, later_still}
-use Rattle.p3_dft.proofs.Calls.JobLists.{costs_more, costs_none, costs_rest, first_answers, next_is, next_not_promised}
-use Rattle.p3_dft.proofs.Calls.JobLists.{next_of_all, of_all, on_any_error, ready_later, split_more, taken}
-use Rattle.p3_dft.proofs.Calls.JobLists.{taken_and_next}
-use Rattle.p3_dft.proofs.Calls.PreparedHeights.{not_ok}
 use Rattle.p3_dft.proofs.jobs.answer_jobs.Goals as goal
 
 -- where there was no room for answers, there are jobs, and no answer

@@ -1,6 +1,4 @@
-use Rattle.std.proofs.Common.{sym, ◌∙◌, arith}
-use Rattle.p3_dft.proofs.Calls.PreparedHeights.{not_ok}
-use Rattle.p3_dft.proofs.Calls.Stored.{at_log}
+use Rattle.p3_dft.proofs.Lemmas.{sym, ◌∙◌, arith, not_ok, at_log}
 use Rattle.p3_dft.proofs.prepared.on_prepared.Goals as goal
 
 pub returns-then-height-eq1-clause-made : goal.returns-then-height-eq1-clause-made

@@ -1,6 +1,4 @@
-use Rattle.std.proofs.Common.{ap, ◌∙◌, refl}
-use Rattle.p3_dft.proofs.BitReversed.Coefficients.{values_of_parts}
-use Rattle.p3_dft.proofs.NetworkG.{root_powers}
+use Rattle.p3_dft.proofs.Lemmas.{ap, ◌∙◌, refl, values_of_parts, root_powers}
 use Rattle.p3_dft.proofs.radix_2_bowers.evaluate_to_natural.Goals as goal
 
 pub network_g-requires-clause-twiddles : goal.network_g-requires-clause-twiddles

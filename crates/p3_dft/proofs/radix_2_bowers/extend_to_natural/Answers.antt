@@ -1,10 +1,4 @@
-use Rattle.std.proofs.Common.{refl, ◌+◌, ◌∙◌, arith}
-use Rattle.p3_matrix.specs.BitOrder.{bit_reversal}
-use Rattle.p3_matrix.specs.Cosets.{values_of}
-use Rattle.p3_matrix.specs.Matrix.{image}
-use Rattle.p3_matrix.proofs.Polynomials.Cosets.{coset_values}
-use Rattle.p3_matrix.proofs.Rooms.{room_of}
-use Rattle.p3_dft.proofs.Calls.Shapes.{both_logs_fit, extended_entries, fewer_of_same}
+use Rattle.p3_dft.proofs.Lemmas.{refl, ◌+◌, ◌∙◌, arith, bit_reversal, values_of, image, coset_values, room_of, both_logs_fit, extended_entries, fewer_of_same}
 use Rattle.p3_dft.proofs.radix_2_bowers.extend_to_natural.Goals as goal
 
 pub evaluate_to_natural-requires-clause-within : goal.evaluate_to_natural-requires-clause-within

@@ -1,8 +1,4 @@
-use Rattle.std.proofs.Common.{◌≡◌, ℕ, ◌^◌, ◌∙◌, subst}
-use Rattle.p3_matrix.specs.BitOrder.{bit_reversal}
-use Rattle.p3_matrix.specs.RowMajor.{height}
-use Rattle.p3_matrix.specs.Cosets.{IsQuotient, values_of}
-use Rattle.p3_matrix.proofs.Polynomials.Quotients.{reversed_quotient}
+use Rattle.p3_dft.proofs.Lemmas.{◌≡◌, ℕ, ◌^◌, ◌∙◌, subst, bit_reversal, height, IsQuotient, values_of, reversed_quotient}
 use Rattle.p3_dft.proofs.radix_2_bowers.interpolate_to_reversed.Goals as goal
 
 pub returns-clause-coefficients : goal.returns-clause-coefficients

@@ -1,12 +1,6 @@
-use Rattle.std.proofs.Common.{ℕ, ◌^◌, length, refl, sym, ap, ◌∙◌}
+use Rattle.p3_dft.proofs.Lemmas.{ℕ, ◌^◌, length, refl, sym, ap, ◌∙◌, inverse_root, inverse_undoes, values_of, coefficients_of_row, room_of}
+use Rattle.p3_dft.proofs.Lemmas.{coefficients_of_parts, entries_written, half_powers_fit, root_powers}
 use Rattle.p3_field.proofs.Rings
-use Rattle.p3_field.proofs.Roots.{inverse_root, inverse_undoes}
-use Rattle.p3_matrix.specs.Cosets.{values_of}
-use Rattle.p3_matrix.proofs.Polynomials.ReversedCoefficients.{coefficients_of_row}
-use Rattle.p3_matrix.proofs.Rooms.{room_of}
-use Rattle.p3_dft.proofs.BitReversed.Coefficients.{coefficients_of_parts}
-use Rattle.p3_dft.proofs.Calls.Stored.{entries_written}
-use Rattle.p3_dft.proofs.NetworkG.{half_powers_fit, root_powers}
 use Rattle.p3_dft.proofs.radix_2_bowers.interpolate_unscaled_to_reversed.Goals as goal
 
 pub inverse-inverse-requires : goal.inverse-inverse-requires

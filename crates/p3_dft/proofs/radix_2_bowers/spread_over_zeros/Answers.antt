@@ -1,8 +1,5 @@
-use Rattle.std.proofs.Common.{◌≡◌, ℕ, ◌+◌, ◌*◌, ◌-◌, ◌^◌, ◌≤◌, refl, sym, ap, ◌∙◌, subst, arith, pow-add, pow_pos}
-use Rattle.p3_matrix.specs.BitOrder.{bit_reversal}
-use Rattle.p3_matrix.specs.Cosets.{IsValues, values_of}
-use Rattle.p3_matrix.specs.RowMajor.{height}
-use Rattle.p3_dft.proofs.Calls.Shapes.{both_logs_fit, output_log_small, output_size}
+use Rattle.p3_dft.proofs.Lemmas.{◌≡◌, ℕ, ◌+◌, ◌*◌, ◌-◌, ◌^◌, ◌≤◌, refl, sym, ap, ◌∙◌, subst, arith, pow-add, pow_pos, bit_reversal, IsValues, values_of, height}
+use Rattle.p3_dft.proofs.Lemmas.{both_logs_fit, output_log_small, output_size}
 use Rattle.p3_dft.proofs.NetworkG.{none_spread, one_spread, places_there, values_still}
 use Rattle.p3_dft.proofs.radix_2_bowers.spread_over_zeros.Goals as goal
 

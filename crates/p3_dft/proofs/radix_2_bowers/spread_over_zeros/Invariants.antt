@@ -1,5 +1,4 @@
-use Rattle.std.proofs.Common.{◌≤◌}
-use Rattle.p3_dft.proofs.NetworkG.{RowsSpread}
+use Rattle.p3_dft.proofs.Lemmas.{◌≤◌, RowsSpread}
 use Rattle.p3_dft.proofs.radix_2_bowers.spread_over_zeros.Given as goal
 
 abbrev pub invariant-loop-row : goal.invariant-loop-row

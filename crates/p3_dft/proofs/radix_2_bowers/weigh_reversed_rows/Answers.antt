@@ -1,9 +1,4 @@
-use Rattle.std.proofs.Common.{◌≡◌, ◌/◌, length, refl, ap, ap₂, ◌∙◌, arith, rules}
-use Rattle.std.proofs.lemmas.List.{get_or_read_under}
-use Rattle.p3_networks.proofs.Layers.Counts.{turn_counted}
-use Rattle.p3_matrix.specs.RowMajor.{height}
-use Rattle.p3_matrix.proofs.Rooms.{room_of}
-use Rattle.p3_dft.proofs.Calls.Shapes.{powers_fit}
+use Rattle.p3_dft.proofs.Lemmas.{◌≡◌, ◌/◌, length, refl, ap, ap₂, ◌∙◌, arith, rules, get_or_read_under, turn_counted, height, room_of, powers_fit}
 use Rattle.p3_dft.proofs.NetworkG.{one_weighed, weighed_alike, weighed_by_table}
 use Rattle.p3_dft.proofs.radix_2_bowers.weigh_reversed_rows.Goals as goal
 

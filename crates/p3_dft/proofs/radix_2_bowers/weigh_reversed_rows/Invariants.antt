@@ -1,5 +1,4 @@
-use Rattle.std.proofs.Common.{◌≡◌, ◌+◌, ◌*◌, get_or}
-use Rattle.p3_dft.proofs.NetworkG.{RowsWeighed}
+use Rattle.p3_dft.proofs.Lemmas.{◌≡◌, ◌+◌, ◌*◌, get_or, RowsWeighed}
 use Rattle.p3_dft.proofs.radix_2_bowers.weigh_reversed_rows.Given as goal
 
 abbrev pub invariant-loop-i : goal.invariant-loop-i

@@ -1,15 +1,6 @@
-use Rattle.std.proofs.Common.{ℕ, List, [], ◌≡◌, ◌*◌, ◌/◌, ◌%◌, ◌+◌, ◌-◌, ◌^◌, ◌<◌, ◌≤◌, ◌++◌, length, get_or, replicate}
-use Rattle.std.proofs.Common.{drop, refl, sym, ◌∙◌, ap, ap₂, arith, mod-eq_of_lt, mul-div_cancel}
-use Rattle.std.proofs.lemmas.List.{length-replicate}
-use Rattle.p3_field.specs.Ring.{power}
-use Rattle.p3_matrix.specs.BitOrder.{rev}
-use Rattle.p3_matrix.specs.RowMajor.{RowMajor, height}
-use Rattle.p3_matrix.specs.Polynomials.{poly}
-use Rattle.p3_dft.proofs.BitReversed.OneReversal.{values_of_weighed}
-use Rattle.p3_networks.proofs.Layers.Counts.{extension_counted}
-use Rattle.p3_matrix.proofs.Rows.Overwritten.{written}
-use Rattle.p3_matrix.proofs.Rooms.{room_of}
-use Rattle.p3_dft.proofs.Calls.Shapes.{extended_entries, fewer_entries, powers_fit}
+use Rattle.p3_dft.proofs.Lemmas.{ℕ, List, [], ◌≡◌, ◌*◌, ◌/◌, ◌%◌, ◌+◌, ◌-◌, ◌^◌, ◌<◌, ◌≤◌, ◌++◌, length, get_or, replicate, drop, refl, sym, ◌∙◌, ap, ap₂}
+use Rattle.p3_dft.proofs.Lemmas.{arith, mod-eq_of_lt, mul-div_cancel, length-replicate, power, rev, RowMajor, height, poly, values_of_weighed}
+use Rattle.p3_dft.proofs.Lemmas.{extension_counted, written, room_of, extended_entries, fewer_entries, powers_fit}
 use Rattle.p3_dft.proofs.radix_2_small_batch.extend_to_natural.Given as given
 use Rattle.p3_dft.proofs.radix_2_small_batch.extend_to_natural.Goals.{In_ok-extend_by_zeros}
 use Rattle.p3_dft.proofs.radix_2_small_batch.extend_to_natural.Goals as goal

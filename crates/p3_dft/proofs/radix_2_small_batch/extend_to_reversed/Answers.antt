@@ -1,6 +1,4 @@
-use Rattle.std.proofs.Common.{length, sym, ap, ◌∙◌, refl}
-use Rattle.p3_dft.proofs.BitReversed.Rows.{values_of_network}
-use Rattle.p3_dft.proofs.Calls.Stored.{entries_written}
+use Rattle.p3_dft.proofs.Lemmas.{length, sym, ap, ◌∙◌, refl, values_of_network, entries_written}
 use Rattle.p3_dft.proofs.radix_2_small_batch.extend_to_reversed.Goals as goal
 
 pub returns-clause-values : goal.returns-clause-values

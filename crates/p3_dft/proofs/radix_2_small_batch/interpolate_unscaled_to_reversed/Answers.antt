@@ -1,10 +1,5 @@
-use Rattle.std.proofs.Common.{ℕ, ◌^◌, ◌≤◌, refl, ap, ◌∙◌, arith, length}
-use Rattle.p3_field.proofs.Roots.{inverse_root, inverse_roots}
-use Rattle.p3_matrix.specs.Cosets.{values_of}
-use Rattle.p3_dft.proofs.BitReversed.Coefficients.{coefficients_of_parts}
-use Rattle.p3_matrix.proofs.Polynomials.ReversedCoefficients.{coefficients_of_row}
-use Rattle.p3_networks.proofs.Tables.FromStart.{enough_from_start, first_is_one}
-use Rattle.p3_dft.proofs.Calls.Stored.{entries_written}
+use Rattle.p3_dft.proofs.Lemmas.{ℕ, ◌^◌, ◌≤◌, refl, ap, ◌∙◌, arith, length, inverse_root, inverse_roots, values_of, coefficients_of_parts, coefficients_of_row}
+use Rattle.p3_dft.proofs.Lemmas.{enough_from_start, first_is_one, entries_written}
 use Rattle.p3_dft.proofs.radix_2_small_batch.interpolate_unscaled_to_reversed.Goals as goal
 
 pub returns-then-log_h-eq0-clause-coefficients : goal.returns-then-log_h-eq0-clause-coefficients

@@ -1,7 +1,4 @@
-use Rattle.std.proofs.Common.{ℕ, ◌≡◌, ◌^◌, ◌<◌, ◌≤◌, ◌↔◌, IsTrue, leb, le-leb, leb-true, lit≤, min, sym, arith}
-use Rattle.std.proofs.Math.Nat.{pow-le-pow_right}
-use Rattle.std.proofs.lemmas.Bool.{true≢false}
-use Rattle.p3_matrix.proofs.TwoPowers.{log_of_usize}
+use Rattle.p3_dft.proofs.Lemmas.{ℕ, ◌≡◌, ◌^◌, ◌<◌, ◌≤◌, ◌↔◌, IsTrue, leb, le-leb, leb-true, lit≤, min, sym, arith, pow-le-pow_right, true≢false, log_of_usize}
 use Rattle.p3_dft.proofs.reed_solomon.fits_code.Goals as goal
 
 -- two to a logarithm of at most 63 is below 2 ^ 64, and two to no other

@@ -1,6 +1,4 @@
-use Rattle.std.proofs.Common.{◌≡◌, ℕ, ◌*◌, ◌%◌, ◌^◌, ◌<◌, ap, arith, mod-eq_of_lt, mul-le-mul_left}
-use Rattle.p3_dft.specs.Shapes.{FitsLde}
-use Rattle.p3_dft.proofs.Calls.Shapes.{output_log_small, output_size}
+use Rattle.p3_dft.proofs.Lemmas.{◌≡◌, ℕ, ◌*◌, ◌%◌, ◌^◌, ◌<◌, ap, arith, mod-eq_of_lt, mul-le-mul_left, FitsLde, output_log_small, output_size}
 use Rattle.p3_dft.proofs.util.extended_height.Goals as goal
 
 entries_small : (most height width added : ℕ) → FitsLde most height width added → height * 2 ^ added * width < 2 ^ 64

@@ -1,5 +1,4 @@
-use Rattle.std.proofs.Common.{refl}
-use Rattle.p3_dft.proofs.Calls.Shapes.{both_logs_fit, input_fits, output_size}
+use Rattle.p3_dft.proofs.Lemmas.{refl, both_logs_fit, input_fits, output_size}
 use Rattle.p3_dft.proofs.util.log_height_lde.Goals as goal
 
 pub log_height-requires : goal.log_height-requires

@@ -1,13 +1,5 @@
-use Rattle.std.proofs.Common.{◌≡◌, ◌^◌, ap, ◌∙◌, arith, le-add_right, le_trans}
-use Rattle.std.proofs.lemmas.Result.{IfOk-weaker}
-use Rattle.p3_field.specs.Ring.{count}
-use Rattle.p3_field.proofs.Powers.{count-power_of_two}
-use Rattle.p3_matrix.specs.RowMajor.{height}
-use Rattle.p3_matrix.proofs.TwoPowers.{more_points}
-use Rattle.p3_dft.proofs.BitReversed.Coefficients.{extension_of_row}
-use Rattle.p3_dft.proofs.Calls.CountedCalls.{after_lde, inverse_refused}
-use Rattle.p3_dft.proofs.Calls.Shapes.{both_logs_fit, both_none}
-use Rattle.p3_dft.proofs.NetworkG.{extension_by_scale}
+use Rattle.p3_dft.proofs.Lemmas.{◌≡◌, ◌^◌, ap, ◌∙◌, arith, le-add_right, le_trans, IfOk-weaker, count, count-power_of_two, height, more_points}
+use Rattle.p3_dft.proofs.Lemmas.{extension_of_row, after_lde, inverse_refused, both_logs_fit, both_none, extension_by_scale}
 use Rattle.p3_dft.proofs.radix_2_bowers.Radix2BowersTwoAdicSubgroupDft.coset_lde_batch.Goals as goal
 
 pub overflow_add-log_h : goal.overflow_add-log_h

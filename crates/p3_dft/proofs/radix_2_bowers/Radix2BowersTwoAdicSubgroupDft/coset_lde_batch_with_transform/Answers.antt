@@ -1,11 +1,5 @@
-use Rattle.std.proofs.Common.{◌^◌, ap, ◌∙◌, refl, arith}
-use Rattle.std.proofs.lemmas.Result.{IfOk-weaker}
-use Rattle.p3_matrix.specs.RowMajor.{height}
-use Rattle.p3_matrix.proofs.TwoPowers.{more_points}
-use Rattle.p3_dft.proofs.BitReversed.Coefficients.{extension_of_told_row}
-use Rattle.p3_dft.proofs.Calls.CountedCalls.{after_lde, inverse_refused}
-use Rattle.p3_dft.proofs.Calls.Shapes.{both_logs_fit, both_none}
-use Rattle.p3_dft.proofs.Calls.Stored.{whole_still}
+use Rattle.p3_dft.proofs.Lemmas.{◌^◌, ap, ◌∙◌, refl, arith, IfOk-weaker, height, more_points, extension_of_told_row, after_lde, inverse_refused, both_logs_fit}
+use Rattle.p3_dft.proofs.Lemmas.{both_none, whole_still}
 use Rattle.p3_dft.proofs.NetworkG.{changed_shape, extension_of_changed, fits_lde_still, shape_still}
 use Rattle.p3_dft.proofs.radix_2_bowers.Radix2BowersTwoAdicSubgroupDft.coset_lde_batch_with_transform.Goals as goal
 

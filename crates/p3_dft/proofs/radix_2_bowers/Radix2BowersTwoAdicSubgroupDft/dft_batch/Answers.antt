@@ -1,7 +1,4 @@
-use Rattle.std.proofs.Common.{◌∙◌, arith, sym}
-use Rattle.p3_dft.proofs.BitReversed.Rows.{transform_of_row}
-use Rattle.p3_dft.proofs.Calls.CountedCalls.{after_dft}
-use Rattle.p3_dft.proofs.NetworkG.{transform_by_reversal}
+use Rattle.p3_dft.proofs.Lemmas.{◌∙◌, arith, sym, transform_of_row, after_dft, transform_by_reversal}
 use Rattle.p3_dft.proofs.radix_2_bowers.Radix2BowersTwoAdicSubgroupDft.dft_batch.Goals as goal
 
 pub returns-then-height-eq1-clause-values : goal.returns-then-height-eq1-clause-values

@@ -1,7 +1,4 @@
-use Rattle.std.proofs.Common.{refl, ◌∙◌, sym, arith}
-use Rattle.p3_dft.proofs.BitReversed.Coefficients.{interpolation_of_row}
-use Rattle.p3_dft.proofs.Calls.CountedCalls.{after_dft}
-use Rattle.p3_dft.proofs.NetworkG.{interpolation_by_reversal}
+use Rattle.p3_dft.proofs.Lemmas.{refl, ◌∙◌, sym, arith, interpolation_of_row, after_dft, interpolation_by_reversal}
 use Rattle.p3_dft.proofs.radix_2_bowers.Radix2BowersTwoAdicSubgroupDft.idft_batch.Goals as goal
 
 pub returns-then-height-eq1-clause-coefficients : goal.returns-then-height-eq1-clause-coefficients

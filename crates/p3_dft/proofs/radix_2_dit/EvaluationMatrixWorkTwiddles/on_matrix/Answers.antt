@@ -1,8 +1,4 @@
-use Rattle.std.proofs.Common.{refl, ℕ, ap, ap₂, sym, length, ◌∙◌, ◌*◌, arith}
-use Rattle.std.proofs.Math.Nat.{le-add_right}
-use Rattle.p3_networks.proofs.Tables.MoreTwiddles.{fewer_layers, layer_there}
-use Rattle.p3_dft.proofs.BitReversed.Rows.{transform_of_reversed}
-use Rattle.p3_dft.proofs.Calls.Counts.{larger_bound}
+use Rattle.p3_dft.proofs.Lemmas.{refl, ℕ, ap, ap₂, sym, length, ◌∙◌, ◌*◌, arith, le-add_right, fewer_layers, layer_there, transform_of_reversed, larger_bound}
 use Rattle.p3_dft.proofs.radix_2_dit.EvaluationMatrixWorkTwiddles.on_matrix.Goals as goal
 
 pub dit_network_to_natural-requires-clause-size : goal.dit_network_to_natural-requires-clause-size

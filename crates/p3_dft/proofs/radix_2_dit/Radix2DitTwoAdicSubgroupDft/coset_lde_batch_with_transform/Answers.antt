@@ -1,13 +1,6 @@
-use Rattle.std.proofs.Common.{ℕ, ◌≡◌, ◌+◌, ◌^◌, ◌∙◌, refl, sym, arith, le_refl, ap}
-use Rattle.std.proofs.lemmas.Result.{IfOk-from_err, IfOk-weaker}
-use Rattle.p3_matrix.specs.RowMajor.{HasShapeOf, height}
-use Rattle.p3_matrix.proofs.Rooms.{first_of}
-use Rattle.p3_matrix.proofs.Rows.Padding.{padded_shape}
-use Rattle.p3_dft.specs.Engines.{EngineState}
-use Rattle.p3_dft.proofs.Calls.EngineSteps.{after_part, extended_after, part_refused, parts_after, products_after}
-use Rattle.p3_dft.proofs.Calls.ExtendedTransforms.{answered_shape, extension_of_shifted}
-use Rattle.p3_dft.proofs.Calls.PreparedHeights.{none_above}
-use Rattle.p3_dft.proofs.Calls.Shapes.{fewer_entries, input_fits, output_fits, output_log_small, output_size, same_extended}
+use Rattle.p3_dft.proofs.Lemmas.{ℕ, ◌≡◌, ◌+◌, ◌^◌, ◌∙◌, refl, sym, arith, le_refl, ap, IfOk-from_err, IfOk-weaker, HasShapeOf, height, first_of, padded_shape}
+use Rattle.p3_dft.proofs.Lemmas.{EngineState, after_part, extended_after, part_refused, parts_after, products_after, answered_shape, extension_of_shifted}
+use Rattle.p3_dft.proofs.Lemmas.{none_above, fewer_entries, input_fits, output_fits, output_log_small, output_size, same_extended}
 use Rattle.p3_dft.proofs.radix_2_dit.Radix2DitTwoAdicSubgroupDft.coset_lde_batch_with_transform.Given as given
 use Rattle.p3_dft.proofs.radix_2_dit.Radix2DitTwoAdicSubgroupDft.coset_lde_batch_with_transform.Goals.{After-transform-changed}
 use Rattle.p3_dft.proofs.radix_2_dit.Radix2DitTwoAdicSubgroupDft.coset_lde_batch_with_transform.Goals as goal

@@ -1,18 +1,7 @@
-use Rattle.std.proofs.Common.{◌≡◌, ◌⊎◌, inl, inr, Bool, false, ℕ, ◌^◌, IsTrue, length, refl, sym, ap, ◌∙◌}
-use Rattle.std.proofs.Common.{arith, rules, ◌≤◌, max, le-add_right, le_refl}
-use Rattle.std.proofs.lemmas.Result.{IfOk-from_err, on_ok_weaker}
-use Rattle.p3_matrix.specs.Cosets.{Coset, HasCoset}
-use Rattle.p3_matrix.proofs.Rooms.{either_of}
-use Rattle.p3_dft.specs.Engines.{CosetEngineState}
-use Rattle.p3_dft.proofs.BitReversed.OneRow.{row_handed_back, row_seen}
-use Rattle.p3_dft.proofs.BitReversed.Rows.{transform_seen}
-use Rattle.p3_dft.proofs.Calls.Counts.{larger_bound}
-use Rattle.p3_dft.proofs.Calls.EngineSteps.{after_none}
-use Rattle.p3_dft.proofs.Calls.JobLists.{on_any_error}
-use Rattle.p3_dft.proofs.Calls.PreparedCosets.{coset_stays, later_with_tables, one_table_more, tabled}
-use Rattle.p3_dft.proofs.Calls.PreparedHeights.{no_larger, none_above, not_ok}
-use Rattle.p3_dft.proofs.Calls.Shapes.{one_less_fits, powers_fit}
-use Rattle.p3_dft.proofs.Calls.Stored.{at_log}
+use Rattle.p3_dft.proofs.Lemmas.{◌≡◌, ◌⊎◌, inl, inr, Bool, false, ℕ, ◌^◌, IsTrue, length, refl, sym, ap, ◌∙◌, arith, rules, ◌≤◌, max, le-add_right, le_refl}
+use Rattle.p3_dft.proofs.Lemmas.{IfOk-from_err, on_ok_weaker, Coset, HasCoset, either_of, CosetEngineState, row_handed_back, row_seen, transform_seen}
+use Rattle.p3_dft.proofs.Lemmas.{larger_bound, after_none, on_any_error, coset_stays, later_with_tables, one_table_more, tabled, no_larger, none_above, not_ok}
+use Rattle.p3_dft.proofs.Lemmas.{one_less_fits, powers_fit, at_log}
 use Rattle.p3_dft.proofs.radix_2_dit_parallel.Radix2DitParallelTwoAdicSubgroupDft.coset_dft_batch.Goals as goal
 
 not_both : (b : Bool) → b ≡ false → IsTrue b → ⊥

@@ -1,13 +1,5 @@
-use Rattle.std.proofs.Common.{◌≡◌, ℕ, ◌+◌, ◌*◌, ◌≤◌, sym, ap, ◌∙◌, subst, arith, refl, le-add_right, le_trans}
-use Rattle.p3_matrix.specs.BitOrder.{bit_reversal}
-use Rattle.p3_matrix.specs.RowMajor.{RowMajor}
-use Rattle.p3_matrix.specs.Room.{IsWithinEither}
-use Rattle.p3_matrix.specs.Cosets.{values_of}
-use Rattle.p3_dft.proofs.BitReversed.Coefficients.{values_of_answered}
-use Rattle.p3_dft.proofs.BitReversed.Rows.{values_seen}
-use Rattle.p3_dft.proofs.Calls.PreparedCosets.{later_with_tables}
-use Rattle.p3_dft.proofs.Calls.PublishedExtensions.{one_error}
-use Rattle.p3_dft.proofs.Calls.Stored.{at_log, whole_still}
+use Rattle.p3_dft.proofs.Lemmas.{◌≡◌, ℕ, ◌+◌, ◌*◌, ◌≤◌, sym, ap, ◌∙◌, subst, arith, refl, le-add_right, le_trans, bit_reversal, RowMajor, IsWithinEither}
+use Rattle.p3_dft.proofs.Lemmas.{values_of, values_of_answered, values_seen, later_with_tables, one_error, at_log, whole_still}
 use Rattle.p3_dft.proofs.radix_2_dit_parallel.Radix2DitParallelTwoAdicSubgroupDft.coset_lde_batch_with_blocks.Goals as goal
 
 -- an inverse with a product for each entry, and a transform for each slot

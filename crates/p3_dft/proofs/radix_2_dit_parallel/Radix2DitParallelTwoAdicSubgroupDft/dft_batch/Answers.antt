@@ -1,7 +1,4 @@
-use Rattle.std.proofs.Common.{◌≡◌, ap₂, refl, ◌∙◌, le-add_right, le_refl}
-use Rattle.p3_matrix.proofs.Rooms.{first_of}
-use Rattle.p3_dft.proofs.BitReversed.OneRow.{row_handed_back, row_seen}
-use Rattle.p3_dft.proofs.Calls.PreparedCosets.{later_with_tables, tabled}
+use Rattle.p3_dft.proofs.Lemmas.{◌≡◌, ap₂, refl, ◌∙◌, le-add_right, le_refl, first_of, row_handed_back, row_seen, later_with_tables, tabled}
 use Rattle.p3_dft.proofs.radix_2_dit_parallel.Radix2DitParallelTwoAdicSubgroupDft.dft_batch.Goals as goal
 
 pub on_prepared-requires-clause-alone : goal.on_prepared-requires-clause-alone

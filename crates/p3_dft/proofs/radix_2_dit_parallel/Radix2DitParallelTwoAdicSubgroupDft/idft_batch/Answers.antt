@@ -1,8 +1,4 @@
-use Rattle.std.proofs.Common.{ap₂, refl, le-add_right, le_refl}
-use Rattle.std.proofs.lemmas.Result.{on_err_weaker}
-use Rattle.p3_matrix.proofs.Rooms.{if_first}
-use Rattle.p3_dft.proofs.BitReversed.Coefficients.{interpolation_of_row}
-use Rattle.p3_dft.proofs.Calls.PreparedCosets.{later_with_tables, tabled}
+use Rattle.p3_dft.proofs.Lemmas.{ap₂, refl, le-add_right, le_refl, on_err_weaker, if_first, interpolation_of_row, later_with_tables, tabled}
 use Rattle.p3_dft.proofs.radix_2_dit_parallel.Radix2DitParallelTwoAdicSubgroupDft.idft_batch.Goals as goal
 
 pub on_prepared-requires-clause-alone : goal.on_prepared-requires-clause-alone

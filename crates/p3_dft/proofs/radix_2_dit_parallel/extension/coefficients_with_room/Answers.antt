@@ -1,11 +1,5 @@
-use Rattle.std.proofs.Common.{[], sym, ◌∙◌, refl, append-nil, inl, le_refl, le-add_right}
-use Rattle.std.proofs.lemmas.List.Elements.{All-nil}
-use Rattle.std.proofs.lemmas.Result.{IfOk-from_err}
-use Rattle.p3_matrix.proofs.Rooms.{either_of, first_of}
-use Rattle.p3_dft.proofs.Calls.Counts.{more_allowed}
-use Rattle.p3_dft.proofs.Calls.PreparedHeights.{no_larger}
-use Rattle.p3_dft.proofs.Calls.Shapes.{one_less_fits, extended_table, same_extended}
-use Rattle.p3_dft.proofs.Calls.Stored.{at_log, rows_padded, whole_still}
+use Rattle.p3_dft.proofs.Lemmas.{[], sym, ◌∙◌, refl, append-nil, inl, le_refl, le-add_right, All-nil, IfOk-from_err, either_of, first_of, more_allowed}
+use Rattle.p3_dft.proofs.Lemmas.{no_larger, one_less_fits, extended_table, same_extended, at_log, rows_padded, whole_still}
 use Rattle.p3_dft.proofs.radix_2_dit_parallel.extension.coefficients_with_room.Goals as goal
 
 pub transform-changed-requires : goal.transform-changed-requires

@@ -1,19 +1,8 @@
-use Rattle.std.proofs.Common.{◌≡◌, ℕ, ◌+◌, ◌-◌, ◌*◌, ◌/◌, ◌%◌, ◌^◌, ◌++◌, List, length, get_or, take, drop, refl, sym}
-use Rattle.std.proofs.Common.{ap, ap₂, ◌∙◌, subst, arith, IsPermutation, pow-add, pow_pos}
-use Rattle.std.proofs.Math.Nat.{mul-div_cancel, mul-mod_left}
-use Rattle.std.proofs.lemmas.Result.{IfErr-weaker, on_ok_weaker}
-use Rattle.p3_matrix.specs.BitOrder.{rev}
+use Rattle.p3_dft.proofs.Lemmas.{◌≡◌, ℕ, ◌+◌, ◌-◌, ◌*◌, ◌/◌, ◌%◌, ◌^◌, ◌++◌, List, length, get_or, take, drop, refl, sym, ap, ap₂, ◌∙◌, subst, arith}
+use Rattle.p3_dft.proofs.Lemmas.{IsPermutation, pow-add, pow_pos, mul-div_cancel, mul-mod_left, IfErr-weaker, on_ok_weaker, rev, Matrix, rows_from, rev-lt}
+use Rattle.p3_dft.proofs.Lemmas.{list_same, point, poly, written, values_of_network, values_of_upper, entries_written}
 use Rattle.p3_matrix.specs.Blocks.{block, first_blocks}
-use Rattle.p3_matrix.specs.Matrix.{Matrix}
-use Rattle.p3_matrix.specs.RowMajor.{rows_from}
-use Rattle.p3_matrix.proofs.BitReversal.{rev-lt}
-use Rattle.p3_matrix.proofs.Matrices.{list_same}
-use Rattle.p3_matrix.specs.Cosets.{point}
-use Rattle.p3_matrix.specs.Polynomials.{poly}
 use Rattle.p3_networks.specs.Slots.{slot_block, slot_blocks}
-use Rattle.p3_matrix.proofs.Rows.Overwritten.{written}
-use Rattle.p3_dft.proofs.BitReversed.Rows.{values_of_network, values_of_upper}
-use Rattle.p3_dft.proofs.Calls.Stored.{entries_written}
 use Rattle.p3_dft.proofs.radix_2_dit_parallel.extension.extend_reversed.Goals as goal
 
 -- blocks of a slot that begins with row 0 are those of a matrix

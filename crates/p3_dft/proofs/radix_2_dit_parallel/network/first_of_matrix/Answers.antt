@@ -1,11 +1,5 @@
-use Rattle.std.proofs.Common.{◌≡◌, ◌+◌, ◌*◌, ◌-◌, ◌^◌, ◌<◌, length, sym, ap, ◌∙◌, arith, refl, pow-add}
-use Rattle.p3_matrix.specs.BitOrder.{rev}
-use Rattle.p3_matrix.proofs.BitReversal.{rev-block, rev-lt, rev-rev}
-use Rattle.p3_matrix.specs.Cosets.{point, values_of}
-use Rattle.p3_dft.proofs.BitReversed.Rows.{reversed_cell, written_cell}
-use Rattle.p3_networks.proofs.Layers.Blocks.{row_below}
-use Rattle.p3_matrix.proofs.Polynomials.ByIndex.{poly_same}
-use Rattle.p3_dft.proofs.Calls.Stored.{entries_then, entries_written}
+use Rattle.p3_dft.proofs.Lemmas.{◌≡◌, ◌+◌, ◌*◌, ◌-◌, ◌^◌, ◌<◌, length, sym, ap, ◌∙◌, arith, refl, pow-add, rev, rev-block, rev-lt, rev-rev, point, values_of}
+use Rattle.p3_dft.proofs.Lemmas.{reversed_cell, written_cell, row_below, poly_same, entries_then, entries_written}
 use Rattle.p3_dft.proofs.radix_2_dit_parallel.network.first_of_matrix.Goals as goal
 
 pub returns-clause-values : goal.returns-clause-values

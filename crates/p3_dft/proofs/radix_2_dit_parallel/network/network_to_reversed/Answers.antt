@@ -1,14 +1,5 @@
-use Rattle.std.proofs.Common.{◌≡◌, ℕ, ◌+◌, ◌*◌, ◌/◌, ◌%◌, ◌^◌, ◌<◌, sym, ap, ◌∙◌, arith}
-use Rattle.std.proofs.lemmas.Nat.{pow-add, pow_pos, div-add-mod', div_below, mod_below}
-use Rattle.p3_field.specs.Ring.{Ring, AreRoots, power}
-use Rattle.p3_matrix.specs.BitOrder.{rev}
-use Rattle.p3_matrix.proofs.BitReversal.{rev-lt}
-use Rattle.p3_matrix.specs.Cosets.{point, values_of}
-use Rattle.p3_matrix.specs.Polynomials.{poly}
-use Rattle.p3_networks.specs.Twiddles.{factor}
-use Rattle.p3_networks.proofs.Networks.Chunks.{halves_joined}
-use Rattle.p3_matrix.proofs.Polynomials.ByIndex.{poly_same}
-use Rattle.p3_dft.proofs.Calls.Stored.{entries_then, rows_still}
+use Rattle.p3_dft.proofs.Lemmas.{◌≡◌, ℕ, ◌+◌, ◌*◌, ◌/◌, ◌%◌, ◌^◌, ◌<◌, sym, ap, ◌∙◌, arith, pow-add, pow_pos, div-add-mod', div_below, mod_below, Ring}
+use Rattle.p3_dft.proofs.Lemmas.{AreRoots, power, rev, rev-lt, point, values_of, poly, factor, halves_joined, poly_same, entries_then, rows_still}
 use Rattle.p3_dft.proofs.radix_2_dit_parallel.network.network_to_reversed.Goals as goal
 
 -- fewer roots are roots

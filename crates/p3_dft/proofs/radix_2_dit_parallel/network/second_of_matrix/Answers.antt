@@ -1,12 +1,5 @@
-use Rattle.std.proofs.Common.{◌≡◌, ℕ, ◌+◌, ◌*◌, ◌^◌, ◌<◌, length, sym, ap, ◌∙◌, arith, refl, ◌≤◌, subst, ◌/◌, pow-add}
-use Rattle.p3_matrix.specs.BitOrder.{rev}
-use Rattle.p3_matrix.specs.Cosets.{point, values_of}
-use Rattle.p3_networks.specs.Twiddles.{factor, scale_cost}
-use Rattle.p3_dft.proofs.BitReversed.Rows.{reversed_cell, written_cell}
-use Rattle.p3_networks.proofs.Layers.Blocks.{row_below}
-use Rattle.p3_networks.proofs.Networks.Chunks.{row_digits}
-use Rattle.p3_matrix.proofs.Polynomials.ByIndex.{poly_same}
-use Rattle.p3_dft.proofs.Calls.Stored.{entries_then, entries_written}
+use Rattle.p3_dft.proofs.Lemmas.{◌≡◌, ℕ, ◌+◌, ◌*◌, ◌^◌, ◌<◌, length, sym, ap, ◌∙◌, arith, refl, ◌≤◌, subst, ◌/◌, pow-add, rev, point, values_of, factor}
+use Rattle.p3_dft.proofs.Lemmas.{scale_cost, reversed_cell, written_cell, row_below, row_digits, poly_same, entries_then, entries_written}
 use Rattle.p3_dft.proofs.radix_2_dit_parallel.network.second_of_matrix.Goals as goal
 
 pub returns-clause-values : goal.returns-clause-values

@@ -1,19 +1,6 @@
-use Rattle.std.proofs.Common.{◌≡◌, ℕ, ◌+◌, ◌-◌, ◌^◌, ◌<◌, sym, ap, ◌∙◌, subst, arith}
-use Rattle.p3_field.specs.Ring.{AreRoots}
-use Rattle.p3_matrix.specs.BitOrder.{rev, bit_reversal, mid_of}
-use Rattle.p3_matrix.specs.RowMajor.{height}
-use Rattle.p3_matrix.proofs.BitReversal.{rev-lt, rev-rev}
-use Rattle.p3_matrix.specs.Cosets.{point, values_of}
-use Rattle.p3_matrix.specs.Polynomials.{poly}
-use Rattle.p3_networks.specs.Twiddles.{IsCosetTable}
-use Rattle.p3_networks.proofs.Layers.Counts.{halves_counted}
-use Rattle.p3_networks.proofs.Networks.CosetHalves.{halves_whole}
-use Rattle.p3_matrix.proofs.Polynomials.ByIndex.{poly_same}
-use Rattle.p3_matrix.proofs.Polynomials.Cosets.{is_values}
+use Rattle.p3_dft.proofs.Lemmas.{◌≡◌, ℕ, ◌+◌, ◌-◌, ◌^◌, ◌<◌, sym, ap, ◌∙◌, subst, arith, AreRoots, rev, bit_reversal, mid_of, height, rev-lt, rev-rev, point}
+use Rattle.p3_dft.proofs.Lemmas.{values_of, poly, IsCosetTable, halves_counted, halves_whole, poly_same, is_values, layer_there, fewer_roots, HasTwoPowerRows}
 use Rattle.p3_networks.proofs.Tables.CosetTables.{high_of_coset, low_of_coset}
-use Rattle.p3_networks.proofs.Tables.MoreTwiddles.{layer_there}
-use Rattle.p3_networks.proofs.Tables.RootPowers.{fewer_roots}
-use Rattle.p3_dft.specs.Stored.{HasTwoPowerRows}
 use Rattle.p3_dft.proofs.radix_2_dit_parallel.transform.evaluate_on_coset_to_reversed.Goals as goal
 
 pub network_to_reversed-requires-clause-rows : goal.network_to_reversed-requires-clause-rows

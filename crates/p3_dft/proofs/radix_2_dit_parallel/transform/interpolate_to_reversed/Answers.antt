@@ -1,9 +1,4 @@
-use Rattle.std.proofs.Common.{◌≡◌, ◌^◌, ap, ◌∙◌}
-use Rattle.p3_field.specs.Ring.{count}
-use Rattle.p3_field.proofs.Powers.{count-power_of_two}
-use Rattle.p3_matrix.specs.RowMajor.{height}
-use Rattle.p3_matrix.specs.Cosets.{values_of}
-use Rattle.p3_matrix.proofs.Polynomials.ReversedCoefficients.{coefficients_of_scaled}
+use Rattle.p3_dft.proofs.Lemmas.{◌≡◌, ◌^◌, ap, ◌∙◌, count, count-power_of_two, height, values_of, coefficients_of_scaled}
 use Rattle.p3_dft.proofs.radix_2_dit_parallel.transform.interpolate_to_reversed.Goals as goal
 
 pub returns-clause-coefficients : goal.returns-clause-coefficients

@@ -1,16 +1,6 @@
-use Rattle.std.proofs.Common.{◌≡◌, ℕ, ◌+◌, ◌-◌, ◌^◌, ◌<◌, sym, ap, ◌∙◌, subst, arith, ◌≤◌}
-use Rattle.p3_field.specs.Ring.{AreRoots}
-use Rattle.p3_matrix.specs.BitOrder.{rev, mid_of}
-use Rattle.p3_matrix.specs.Cosets.{point, values_of}
-use Rattle.p3_matrix.specs.Polynomials.{poly}
-use Rattle.p3_networks.specs.Twiddles.{factor, root_of, scale_cost}
-use Rattle.p3_networks.proofs.Layers.Counts.{halves_counted}
-use Rattle.p3_networks.proofs.Networks.CosetHalves.{halves_whole}
-use Rattle.p3_matrix.proofs.Polynomials.Cosets.{point_of_one}
-use Rattle.p3_networks.proofs.Tables.FromStart.{block_table}
-use Rattle.p3_networks.proofs.Tables.MoreTwiddles.{fewer_layers, layer_there}
-use Rattle.p3_networks.proofs.Tables.RootPowers.{are_roots, fewer_roots, low_table}
-use Rattle.p3_dft.specs.Stored.{HasTwoPowerRows}
+use Rattle.p3_dft.proofs.Lemmas.{◌≡◌, ℕ, ◌+◌, ◌-◌, ◌^◌, ◌<◌, sym, ap, ◌∙◌, subst, arith, ◌≤◌, AreRoots, rev, mid_of, point, values_of, poly, factor, root_of}
+use Rattle.p3_dft.proofs.Lemmas.{scale_cost, halves_counted, halves_whole, point_of_one, block_table, fewer_layers, layer_there, are_roots, fewer_roots}
+use Rattle.p3_dft.proofs.Lemmas.{low_table, HasTwoPowerRows}
 use Rattle.p3_dft.proofs.radix_2_dit_parallel.transform.transform_to_reversed.Goals as goal
 
 halves_below : (k n : ℕ) → k ≤ n → mid_of k ≤ mid_of n

@@ -1,7 +1,4 @@
-use Rattle.std.proofs.Common.{ℕ, refl}
-use Rattle.p3_networks.specs.Twiddles.{forward_root, block_powers}
-use Rattle.p3_networks.proofs.Tables.FromStart.{enough_from_start, fewer_from_start, first_is_one}
-use Rattle.p3_dft.proofs.BitReversed.Rows.{transform_of_reversed}
+use Rattle.p3_dft.proofs.Lemmas.{ℕ, refl, forward_root, block_powers, enough_from_start, fewer_from_start, first_is_one, transform_of_reversed}
 use Rattle.p3_dft.proofs.radix_2_small_batch.EvaluationMatrixWorkRootTables.on_matrix.Goals as goal
 
 pub dif_network-requires-clause-first : goal.dif_network-requires-clause-first

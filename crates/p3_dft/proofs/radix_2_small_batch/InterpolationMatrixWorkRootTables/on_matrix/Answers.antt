@@ -1,9 +1,4 @@
-use Rattle.std.proofs.Common.{◌≡◌, ◌^◌, refl, ap, ◌∙◌}
-use Rattle.p3_field.specs.Ring.{count}
-use Rattle.p3_field.proofs.Powers.{count-power_of_two}
-use Rattle.p3_networks.specs.Twiddles.{backward_root, block_powers}
-use Rattle.p3_networks.proofs.Tables.FromStart.{fewer_from_start}
-use Rattle.p3_dft.proofs.BitReversed.OneReversal.{interpolation_of_reversed}
+use Rattle.p3_dft.proofs.Lemmas.{◌≡◌, ◌^◌, refl, ap, ◌∙◌, count, count-power_of_two, backward_root, block_powers, fewer_from_start, interpolation_of_reversed}
 use Rattle.p3_dft.proofs.radix_2_small_batch.InterpolationMatrixWorkRootTables.on_matrix.Goals as goal
 
 pub returns-clause-takes : goal.returns-clause-takes

@@ -1,5 +1,4 @@
-use Rattle.std.proofs.Common.{◌≡◌, sym, ◌∙◌, arith}
-use Rattle.p3_matrix.proofs.TwoPowers.{log_same}
+use Rattle.p3_dft.proofs.Lemmas.{◌≡◌, sym, ◌∙◌, arith, log_same}
 use Rattle.p3_dft.proofs.radix_2_small_batch.Radix2DFTSmallBatch.with_tile.Goals as goal
 
 pub prepare-requires-clause-within : goal.prepare-requires-clause-within

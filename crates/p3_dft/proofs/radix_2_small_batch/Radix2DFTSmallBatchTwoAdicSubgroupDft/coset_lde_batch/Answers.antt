@@ -1,22 +1,8 @@
-use Rattle.std.proofs.Common.{◌≡◌, ◌+◌, ◌^◌, refl, ap, ◌∙◌, arith, le_refl, le_trans, le-add_right}
-use Rattle.std.proofs.lemmas.Result.{IfOk-from_err, IfOk-weaker}
-use Rattle.p3_field.specs.Ring.{count}
-use Rattle.p3_field.proofs.Powers.{count-power_of_two}
-use Rattle.p3_matrix.specs.BitOrder.{bit_reversal}
-use Rattle.p3_matrix.specs.Matrix.{image}
-use Rattle.p3_matrix.specs.Cosets.{coset_shift, values_of}
-use Rattle.p3_matrix.proofs.Polynomials.Cosets.{coset_values}
-use Rattle.p3_matrix.proofs.Polynomials.Quotients.{shifted_quotient}
-use Rattle.p3_matrix.proofs.Rooms.{if_first}
-use Rattle.p3_matrix.proofs.TwoPowers.{more_points}
+use Rattle.p3_dft.proofs.Lemmas.{◌≡◌, ◌+◌, ◌^◌, refl, ap, ◌∙◌, arith, le_refl, le_trans, le-add_right, IfOk-from_err, IfOk-weaker, count, count-power_of_two}
+use Rattle.p3_dft.proofs.Lemmas.{bit_reversal, image, coset_shift, values_of, coset_values, shifted_quotient, if_first, more_points, fewer_from_start}
+use Rattle.p3_dft.proofs.Lemmas.{extension_of_coefficients, extension_of_row, larger_bound, after_none, later_with_heights, no_larger, tables_refused}
+use Rattle.p3_dft.proofs.Lemmas.{both_none, same_extended, at_log, rows_still}
 use Rattle.p3_networks.proofs.Layers.Counts.{extension_made, fewer_than_parts}
-use Rattle.p3_networks.proofs.Tables.FromStart.{fewer_from_start}
-use Rattle.p3_dft.proofs.BitReversed.Coefficients.{extension_of_coefficients, extension_of_row}
-use Rattle.p3_dft.proofs.Calls.Counts.{larger_bound}
-use Rattle.p3_dft.proofs.Calls.EngineSteps.{after_none}
-use Rattle.p3_dft.proofs.Calls.PreparedHeights.{later_with_heights, no_larger, tables_refused}
-use Rattle.p3_dft.proofs.Calls.Shapes.{both_none, same_extended}
-use Rattle.p3_dft.proofs.Calls.Stored.{at_log, rows_still}
 use Rattle.p3_dft.proofs.radix_2_small_batch.Radix2DFTSmallBatchTwoAdicSubgroupDft.coset_lde_batch.Goals as goal
 
 pub interpolate_unscaled_to_reversed-requires-clause-twiddles : goal.interpolate_unscaled_to_reversed-requires-clause-twiddles

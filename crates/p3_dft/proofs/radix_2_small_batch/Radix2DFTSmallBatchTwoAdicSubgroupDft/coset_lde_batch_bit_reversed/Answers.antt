@@ -1,15 +1,7 @@
-use Rattle.std.proofs.Common.{◌≡◌, ℕ, ◌+◌, ◌^◌, ◌≤◌, inl, refl, sym, ap, ◌∙◌, arith, le_of_eq, le_refl, max}
-use Rattle.std.proofs.Math.Pow.{pow-lt}
-use Rattle.std.proofs.lemmas.Result.{IfOk-from_err, IfOk-weaker}
-use Rattle.p3_matrix.specs.BitOrder.{reversed_rows}
-use Rattle.p3_matrix.specs.RowMajor.{RowMajor, height}
-use Rattle.p3_matrix.proofs.Rooms.{first_of}
-use Rattle.p3_matrix.proofs.TwoPowers.{entries_rise, log_same}
-use Rattle.p3_dft.specs.Engines.{EngineState, IsLater}
-use Rattle.p3_dft.proofs.Calls.EngineSteps.{after_error, after_later, lde_of_same, parts_after}
-use Rattle.p3_dft.proofs.Calls.ExtendedTransforms.{answered_shape, extension_of_natural}
-use Rattle.p3_dft.proofs.Calls.PreparedHeights.{no_larger, none_above, tabled_facts}
-use Rattle.p3_dft.proofs.Calls.Shapes.{extended_table_fits, fits_lde_as, input_fits}
+use Rattle.p3_dft.proofs.Lemmas.{◌≡◌, ℕ, ◌+◌, ◌^◌, ◌≤◌, inl, refl, sym, ap, ◌∙◌, arith, le_of_eq, le_refl, max, pow-lt, IfOk-from_err, IfOk-weaker}
+use Rattle.p3_dft.proofs.Lemmas.{reversed_rows, RowMajor, height, first_of, entries_rise, log_same, EngineState, IsLater, after_error, after_later, lde_of_same}
+use Rattle.p3_dft.proofs.Lemmas.{parts_after, answered_shape, extension_of_natural, no_larger, none_above, tabled_facts, extended_table_fits, fits_lde_as}
+use Rattle.p3_dft.proofs.Lemmas.{input_fits}
 use Rattle.p3_dft.proofs.radix_2_small_batch.Radix2DFTSmallBatchTwoAdicSubgroupDft.coset_lde_batch_bit_reversed.Goals as goal
 
 -- heights were prepared, without a product

@@ -1,17 +1,6 @@
-use Rattle.std.proofs.Common.{◌≡◌, ℕ, ◌+◌, ◌^◌, ap, ◌∙◌, refl, subst, arith, le_refl, le-add_right}
-use Rattle.std.proofs.lemmas.Result.{IfOk-from_err, IfOk-weaker}
-use Rattle.p3_matrix.specs.Cosets.{IsValues, values_of}
-use Rattle.p3_matrix.specs.RowMajor.{RowMajor, height}
-use Rattle.p3_matrix.proofs.Polynomials.Cosets.{coset_values}
-use Rattle.p3_matrix.proofs.Rooms.{if_first}
-use Rattle.p3_networks.proofs.Tables.FromStart.{fewer_from_start}
-use Rattle.p3_dft.specs.Engines.{EngineState}
-use Rattle.p3_dft.proofs.BitReversed.Coefficients.{extension_of_reversed}
-use Rattle.p3_dft.proofs.Calls.Counts.{larger_bound, points_within}
-use Rattle.p3_dft.proofs.Calls.EngineSteps.{extended_after}
-use Rattle.p3_dft.proofs.Calls.PreparedHeights.{later_with_heights, no_larger, none_above, tables_refused}
-use Rattle.p3_dft.proofs.Calls.Shapes.{same_extended}
-use Rattle.p3_dft.proofs.Calls.Stored.{at_log, rows_still}
+use Rattle.p3_dft.proofs.Lemmas.{◌≡◌, ℕ, ◌+◌, ◌^◌, ap, ◌∙◌, refl, subst, arith, le_refl, le-add_right, IfOk-from_err, IfOk-weaker, IsValues, values_of}
+use Rattle.p3_dft.proofs.Lemmas.{RowMajor, height, coset_values, if_first, fewer_from_start, EngineState, extension_of_reversed, larger_bound, points_within}
+use Rattle.p3_dft.proofs.Lemmas.{extended_after, later_with_heights, no_larger, none_above, tables_refused, same_extended, at_log, rows_still}
 use Rattle.p3_dft.proofs.radix_2_small_batch.Radix2DFTSmallBatchTwoAdicSubgroupDft.coset_lde_batch_of_coefficients.Goals as goal
 
 pub extend_to_natural-requires-clause-rows : goal.extend_to_natural-requires-clause-rows

@@ -1,12 +1,5 @@
-use Rattle.std.proofs.Common.{◌+◌, ◌∙◌, refl, arith, le-add_right, le_trans}
-use Rattle.std.proofs.lemmas.Result.{IfOk-from_err}
-use Rattle.p3_matrix.specs.Cosets.{values_of}
-use Rattle.p3_matrix.proofs.Rows.Padding.{padded_shape}
-use Rattle.p3_networks.proofs.Tables.FromStart.{fewer_from_start}
-use Rattle.p3_dft.proofs.BitReversed.Rows.{values_seen}
-use Rattle.p3_dft.proofs.Calls.Counts.{larger_bound, slots_within}
-use Rattle.p3_dft.proofs.Calls.PreparedHeights.{later_with_heights, no_larger, tables_refused}
-use Rattle.p3_dft.proofs.Calls.Stored.{at_log, rows_padded, whole_still}
+use Rattle.p3_dft.proofs.Lemmas.{◌+◌, ◌∙◌, refl, arith, le-add_right, le_trans, IfOk-from_err, values_of, padded_shape, fewer_from_start, values_seen}
+use Rattle.p3_dft.proofs.Lemmas.{larger_bound, slots_within, later_with_heights, no_larger, tables_refused, at_log, rows_padded, whole_still}
 use Rattle.p3_dft.proofs.radix_2_small_batch.Radix2DFTSmallBatchTwoAdicSubgroupDft.coset_lde_batch_of_coefficients_bit_reversed.Goals as goal
 
 pub extend_to_reversed-requires-clause-twiddles : goal.extend_to_reversed-requires-clause-twiddles

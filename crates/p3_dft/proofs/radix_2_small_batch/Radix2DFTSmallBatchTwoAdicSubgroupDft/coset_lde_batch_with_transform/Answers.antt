@@ -1,8 +1,5 @@
-use Rattle.std.proofs.Common.{refl}
-use Rattle.std.proofs.lemmas.Result.{IfOk-from_err}
+use Rattle.p3_dft.proofs.Lemmas.{refl, IfOk-from_err, extension_of_equal, after_refusal, as_stored}
 use Rattle.p3_dft.specs.declared.traits.Layout.TheVariants.{Natural}
-use Rattle.p3_dft.proofs.Calls.PublishedExtensions.{extension_of_equal}
-use Rattle.p3_dft.proofs.Calls.EngineSteps.{after_refusal, as_stored}
 use Rattle.p3_dft.proofs.radix_2_small_batch.Radix2DFTSmallBatchTwoAdicSubgroupDft.coset_lde_batch_with_transform.Goals as goal
 
 pub returns : goal.returns

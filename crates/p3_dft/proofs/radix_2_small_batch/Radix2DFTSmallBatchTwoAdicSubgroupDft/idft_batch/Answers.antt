@@ -1,7 +1,4 @@
-use Rattle.std.proofs.Common.{ap₂}
-use Rattle.p3_dft.proofs.BitReversed.Coefficients.{interpolation_of_row}
-use Rattle.p3_dft.proofs.Calls.PreparedHeights.{after_prepared, up_to}
-use Rattle.std.proofs.lemmas.Result.{on_err_weaker}
+use Rattle.p3_dft.proofs.Lemmas.{ap₂, interpolation_of_row, after_prepared, up_to, on_err_weaker}
 use Rattle.p3_dft.proofs.radix_2_small_batch.Radix2DFTSmallBatchTwoAdicSubgroupDft.idft_batch.Goals as goal
 
 pub on_prepared-requires-clause-alone : goal.on_prepared-requires-clause-alone

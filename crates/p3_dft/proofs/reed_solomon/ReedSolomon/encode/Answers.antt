@@ -1,5 +1,4 @@
-use Rattle.std.proofs.Common.{sym, refl}
-use Rattle.p3_dft.proofs.Calls.EngineSteps.{as_stored}
+use Rattle.p3_dft.proofs.Lemmas.{sym, refl, as_stored}
 use Rattle.p3_dft.proofs.Laws.Codes.{one_codeword, word_of_extension}
 use Rattle.p3_dft.proofs.reed_solomon.ReedSolomon.encode.Goals as goal
 

@@ -1,7 +1,4 @@
-use Rattle.std.proofs.Common.{sym, ap}
-use Rattle.p3_dft.proofs.Calls.EngineSteps.{as_stored, dft_of_same}
-use Rattle.p3_dft.proofs.Laws.Codes.{degree_told}
-use Rattle.p3_dft.specs.Codes.{Encoder}
+use Rattle.p3_dft.proofs.Lemmas.{sym, ap, as_stored, dft_of_same, degree_told, Encoder}
 use Rattle.p3_dft.proofs.reed_solomon.ReedSolomon.is_codeword.Goals as goal
 
 pub returns-clause-exact : goal.returns-clause-exact

@@ -1,6 +1,4 @@
-use Rattle.std.proofs.Common.{sym, arith}
-use Rattle.std.proofs.lemmas.Nat.{one_shl}
-use Rattle.p3_matrix.proofs.TwoPowers.{log_of_usize}
+use Rattle.p3_dft.proofs.Lemmas.{sym, arith, one_shl, log_of_usize}
 use Rattle.p3_dft.proofs.reed_solomon.ReedSolomon.message_height.Goals as goal
 
 pub overflow_shl-result : goal.overflow_shl-result

@@ -1,5 +1,4 @@
-use Rattle.std.proofs.Common.{arith}
-use Rattle.p3_matrix.proofs.TwoPowers.{log_of_usize}
+use Rattle.p3_dft.proofs.Lemmas.{arith, log_of_usize}
 use Rattle.p3_dft.proofs.reed_solomon.ReedSolomon.word_height.Goals as goal
 
 pub overflow_add-result : goal.overflow_add-result

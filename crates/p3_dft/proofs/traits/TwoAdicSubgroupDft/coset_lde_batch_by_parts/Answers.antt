@@ -1,9 +1,5 @@
-use Rattle.std.proofs.Common.{◌∙◌, arith}
-use Rattle.std.proofs.lemmas.Result.{IfOk-weaker}
-use Rattle.p3_dft.proofs.Calls.ExtendedTransforms.{answered_shape, extension_of_parts}
-use Rattle.p3_matrix.proofs.TwoPowers.{entries_rise}
-use Rattle.p3_dft.proofs.Calls.Shapes.{fewer_entries, fits_lde_as, input_fits}
-use Rattle.p3_dft.proofs.Calls.EngineSteps.{part_refused, parts_after}
+use Rattle.p3_dft.proofs.Lemmas.{◌∙◌, arith, IfOk-weaker, answered_shape, extension_of_parts, entries_rise, fewer_entries, fits_lde_as, input_fits}
+use Rattle.p3_dft.proofs.Lemmas.{part_refused, parts_after}
 use Rattle.p3_dft.proofs.traits.TwoAdicSubgroupDft.coset_lde_batch_by_parts.Goals as goal
 
 pub idft_batch-requires : goal.idft_batch-requires

@@ -1,9 +1,4 @@
-use Rattle.std.proofs.Common.{of_calls}
-use Rattle.std.proofs.lemmas.Result.{IfErr-weaker, IfOk-weaker}
-use Rattle.p3_matrix.specs.BitOrder.{reversed_rows}
-use Rattle.p3_matrix.specs.Cosets.{values_of}
-use Rattle.p3_dft.proofs.Calls.ExtendedTransforms.{extended_of_same}
-use Rattle.p3_dft.proofs.Laws.Blocks.{on_refused_weaker}
+use Rattle.p3_dft.proofs.Lemmas.{of_calls, IfErr-weaker, IfOk-weaker, reversed_rows, values_of, extended_of_same, on_refused_weaker}
 use Rattle.p3_dft.proofs.traits.TwoAdicSubgroupDft.coset_lde_batch_in_blocks.Goals as goal
 
 pub returns-clause-values : goal.returns-clause-values

@@ -1,10 +1,5 @@
-use Rattle.std.proofs.Common.{ℕ, ◌≡◌, ◌^◌, ◌∙◌, ap, arith, sym}
-use Rattle.std.proofs.lemmas.Result.{IfOk-weaker}
-use Rattle.p3_matrix.specs.RowMajor.{RowMajor, height}
-use Rattle.p3_matrix.proofs.Rows.Padding.{padded_shape}
-use Rattle.p3_dft.proofs.Calls.EngineSteps.{extended_after}
-use Rattle.p3_dft.proofs.Calls.ExtendedTransforms.{transform_of_shifted}
-use Rattle.p3_dft.proofs.Calls.Shapes.{output_fits, output_log_small, output_size}
+use Rattle.p3_dft.proofs.Lemmas.{ℕ, ◌≡◌, ◌^◌, ◌∙◌, ap, arith, sym, IfOk-weaker, RowMajor, height, padded_shape, extended_after, transform_of_shifted}
+use Rattle.p3_dft.proofs.Lemmas.{output_fits, output_log_small, output_size}
 use Rattle.p3_dft.proofs.traits.TwoAdicSubgroupDft.coset_lde_batch_of_coefficients.Goals as goal
 
 pub pad_rows-requires-clause-bits : goal.pad_rows-requires-clause-bits

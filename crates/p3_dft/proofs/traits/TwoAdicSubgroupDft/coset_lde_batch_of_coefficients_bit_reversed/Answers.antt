@@ -1,7 +1,4 @@
-use Rattle.std.proofs.Common.{◌+◌, sym, subst}
-use Rattle.p3_matrix.specs.RowMajor.{RowMajor}
-use Rattle.p3_dft.specs.Transforms.{IsExtendedTransform}
-use Rattle.p3_dft.proofs.Calls.EngineSteps.{as_stored}
+use Rattle.p3_dft.proofs.Lemmas.{◌+◌, sym, subst, RowMajor, IsExtendedTransform, as_stored}
 use Rattle.p3_dft.proofs.traits.TwoAdicSubgroupDft.coset_lde_batch_of_coefficients_bit_reversed.Goals as goal
 
 pub into_bit_reversed-requires : goal.into_bit_reversed-requires

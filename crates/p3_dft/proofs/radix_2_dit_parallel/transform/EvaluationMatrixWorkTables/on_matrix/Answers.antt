@@ -1,12 +1,5 @@
-use Rattle.std.proofs.Common.{ℕ, ◌^◌, sym, ap, ◌∙◌, arith}
-use Rattle.p3_field.specs.Ring.{power}
-use Rattle.p3_matrix.specs.BitOrder.{rev, bit_reversal}
-use Rattle.p3_matrix.proofs.BitReversal.{rev-lt, rev-rev}
-use Rattle.p3_matrix.specs.Polynomials.{poly}
-use Rattle.p3_matrix.specs.Cosets.{values_of}
-use Rattle.p3_matrix.proofs.Polynomials.ByIndex.{poly_same}
-use Rattle.p3_matrix.proofs.Polynomials.Cosets.{is_subgroup_values}
-use Rattle.p3_dft.proofs.BitReversed.Rows.{transform_seen}
+use Rattle.p3_dft.proofs.Lemmas.{ℕ, ◌^◌, sym, ap, ◌∙◌, arith, power, rev, bit_reversal, rev-lt, rev-rev, poly, values_of, poly_same, is_subgroup_values}
+use Rattle.p3_dft.proofs.Lemmas.{transform_seen}
 use Rattle.p3_dft.proofs.radix_2_dit_parallel.transform.EvaluationMatrixWorkTables.on_matrix.Goals as goal
 
 pub returns-clause-takes : goal.returns-clause-takes

@@ -1,11 +1,4 @@
-use Rattle.std.proofs.Common.{◌∙◌}
-use Rattle.p3_matrix.specs.BitOrder.{bit_reversal}
-use Rattle.p3_matrix.specs.Matrix.{matrix}
-use Rattle.p3_matrix.specs.Cosets.{values_of}
-use Rattle.p3_matrix.proofs.Matrices.{same_sym, mapped_same}
-use Rattle.p3_matrix.proofs.Polynomials.Interpolation.{same_coefficients}
-use Rattle.p3_dft.proofs.BitReversed.Coefficients.{interpolation_of_coefficients}
-use Rattle.p3_dft.proofs.Calls.Counts.{one_for_each}
+use Rattle.p3_dft.proofs.Lemmas.{◌∙◌, bit_reversal, matrix, values_of, same_sym, mapped_same, same_coefficients, interpolation_of_coefficients, one_for_each}
 use Rattle.p3_dft.proofs.radix_2_dit_parallel.transform.InterpolationMatrixWorkTables.on_matrix.Goals as goal
 
 pub returns-clause-takes : goal.returns-clause-takes
