@@ -1,4 +1,4 @@
-use Rattle.std.proofs.Common.{◌≡◌, ◌≤◌, ◌<◌, ◌∙◌, true, ap, le_of_eq, le_refl, subst, sym, Some, None}
+use Rattle.std.proofs.Common.{◌<◌, ◌∙◌, ap, le_of_eq, le_refl, subst, sym, Some, None}
 use Rattle.std.specs.Prelude.{⊤}
 use Rattle.std.proofs.lemmas.Slice.Zip.{AllZip-long}
 use Rattle.p3_matrix.proofs.Rooms.{either_larger}
